@@ -1,0 +1,4 @@
+-- Laws that every crate's proofs are written with.
+pub mod Cases
+pub mod Table
+pub mod Single

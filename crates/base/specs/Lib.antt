@@ -1,0 +1,3 @@
+-- What every crate's definitions are written with.
+pub mod Pick
+pub mod Counts
