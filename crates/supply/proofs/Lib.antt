@@ -1,0 +1,2 @@
+-- Laws of the supply that belong to no one function.
+pub mod Walk

@@ -1,0 +1,2 @@
+-- What the contracts and the laws of `supply` say.
+pub mod Rules
