@@ -1,0 +1,3 @@
+-- The command table of 01.
+pub mod Refusals
+pub mod Commands
