@@ -1,0 +1,5 @@
+-- The laws of the check, and single outcome.
+pub mod Walk
+pub mod Undo
+pub mod Laws
+pub mod Single
