@@ -1,0 +1,32 @@
+-- `frame::write` meets its contract: no room, or the 40 bytes in front of what the slice held.
+-- Assumes nothing.
+use borrow.Author.Needs.{needs}
+use mathlib.Core.Path.{sym}
+use native.Mathlib.Omega.{arith}
+use denote.Ref.{now}
+use Rattle.frame.proofs.Place.{short, room, frame-length}
+use Rattle.frame.proofs.write.Statement.{statement}
+use Rattle.frame.proofs.write.Tie as tie
+
+returns : tie.Need-returns
+returns c =
+    let a = c .before .before .args in
+    let s = short (a .held) (a .index) (a .latch) 0 (now (a .out)) (omega arith) in
+    (sym (s .0), sym (s .1))
+
+returns-2 : tie.Need-returns-2
+returns-2 c =
+    let a = c .before .before .before .before .before .before .before .before .args in
+    let r = room (a .held) (a .index) (a .latch) 0 (now (a .out)) (omega arith) in
+    (sym (r .0), cc (c .before .before .copy-in .ensures, r .1, frame-length (a .held) (a .index) (a .latch)))
+
+pub write-spec : {M : Type 1} → statement M
+write-spec =
+    tie.close
+    (tie.spec
+    returns
+    (λ c κs. search needs)
+    (λ c. search needs)
+    (λ c κs. search needs)
+    (λ c. search needs)
+    returns-2)

@@ -1,0 +1,60 @@
+-- The 27 items (01, "The 40-byte frame": the numbers and switches placed in its first paragraph), each in its row, and the refusals' numbers.
+-- Assumes nothing.
+use mathlib.Core.List.{List, [], _∷_}
+use Prim.Native.Nat.{ℕ}
+use lib.Dec.{eqb}
+use lib.ListN.{getD}
+use Rattle.base.specs.Pick.{pick}
+use Rattle.frame.specs.declared.Held.{Held}
+use Rattle.frame.specs.declared.Item.{Item}
+use Rattle.frame.specs.declared.Item.the-variants.{Parallel, Multiplexer1, Multiplexer2, Multiplexer3, ErrorCode, DirectionStop, DirectionStart, EnergyStop, EnergyStart, LastInvalidCode, IelEnable, ReducedCounter, Bias, Relay, Ground, Stepping, Limit, Level, Flap1, Flap2, Flap3, IelClock, LastCheck, InvalidCount, HeadMask, LongCounter, FreeTime}
+use Rattle.frame.specs.declared.Refusal.{Refusal}
+use Rattle.frame.specs.declared.Refusal.the-variants.{NotForty, NoRoom}
+
+-- the row of an item, in `heldAt` and in the table `rows`
+abbrev pub rowOf : Item → ℕ
+rowOf Parallel = 0
+rowOf Multiplexer1 = 1
+rowOf Multiplexer2 = 2
+rowOf Multiplexer3 = 3
+rowOf ErrorCode = 4
+rowOf DirectionStop = 5
+rowOf DirectionStart = 6
+rowOf EnergyStop = 7
+rowOf EnergyStart = 8
+rowOf LastInvalidCode = 9
+rowOf IelEnable = 10
+rowOf ReducedCounter = 11
+rowOf Bias = 12
+rowOf Relay = 13
+rowOf Ground = 14
+rowOf Stepping = 15
+rowOf Limit = 16
+rowOf Level = 17
+rowOf Flap1 = 18
+rowOf Flap2 = 19
+rowOf Flap3 = 20
+rowOf IelClock = 21
+rowOf LastCheck = 22
+rowOf InvalidCount = 23
+rowOf HeadMask = 24
+rowOf LongCounter = 25
+rowOf FreeTime = 26
+
+-- the value held of the item in row k; 0 past the last row
+abbrev pub heldAt : Held → ℕ → ℕ
+heldAt h k =
+    getD
+    (h .parallel ∷ h .mux1 ∷ h .mux2 ∷ h .mux3 ∷ h .error ∷ h .dstop ∷ h .dstart ∷ h .estop ∷ h .estart
+    ∷ h .last ∷ h .enable ∷ h .reduced ∷ h .bias ∷ h .relay ∷ h .ground ∷ h .stepping ∷ h .limit ∷ h .level
+    ∷ h .flap1 ∷ h .flap2 ∷ h .flap3 ∷ h .clock ∷ h .check ∷ h .count ∷ h .mask ∷ h .long ∷ h .free ∷ [])
+    k 0
+
+-- 01's number of each refusal
+abbrev pub numberOf : Refusal → ℕ
+numberOf NotForty = 17
+numberOf NoRoom = 18
+
+-- the refusal that has the number n
+abbrev pub numbered : ℕ → Refusal
+numbered n = pick (eqb n (numberOf NotForty)) NotForty NoRoom
