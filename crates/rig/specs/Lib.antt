@@ -1,0 +1,5 @@
+-- The rules of the rig.
+pub mod Words
+pub mod Replies
+pub mod Power
+pub mod Sending

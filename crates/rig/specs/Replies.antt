@@ -1,0 +1,20 @@
+-- What a reply says in the paper's numbers: the refusals that it gives, in their order (01, "Command words").
+-- Assumes nothing.
+use Prim.Native.Nat.{ℕ}
+use mathlib.Core.List.{List, [], _∷_}
+use Rattle.judge.specs.Refusals.{numberOf}
+use Rattle.rig.specs.declared.Answer.{Answer}
+use Rattle.rig.specs.declared.Answer.the-variants.{Accepted, Waiting, Refused}
+use Rattle.rig.specs.declared.Reply.{Reply}
+use Rattle.rig.specs.declared.Reply.the-variants.{Plain, Swallowed, Dropped}
+
+abbrev pub answerRefusals : Answer → List ℕ
+answerRefusals Accepted = []
+answerRefusals Waiting = []
+answerRefusals (Refused why) = numberOf why ∷ []
+
+-- a dropped block is 03h, and the word judged afresh may be refused as well
+abbrev pub refusalsOf : Reply → List ℕ
+refusalsOf (Plain a) = answerRefusals a
+refusalsOf Swallowed = 0x03 ∷ []
+refusalsOf (Dropped a) = 0x03 ∷ answerRefusals a
