@@ -2,4 +2,4 @@
 pub mod Words
 pub mod Replies
 pub mod Power
-pub mod Sending
+pub mod Frames

@@ -1,0 +1,22 @@
+-- `rig::words::data_word` meets its contract: kept with the same code and room left, dropped otherwise.
+-- Assumes nothing.
+use borrow.Author.Tests.{lt-ltb, le-ltb}
+use Rattle.rig.specs.Words.{pendingOf}
+use borrow.Author.Needs.{needs}
+use Rattle.rig.proofs.words.data_word.Statement.{statement}
+use Rattle.rig.proofs.words.data_word.Tie as tie
+
+returns : tie.Need-returns
+unfolding pendingOf
+returns c = simp (c .before .before .before .before .if1 .taken, lt-ltb _ _ (c .before .before .if2 .taken), c .before .store .ensures)
+
+returns-2 : tie.Need-returns-2
+unfolding pendingOf
+returns-2 c = simp (c .before .before .before .if1 .taken, le-ltb _ _ (c .before .if2 .left), c .drop-block .ensures)
+
+returns-3 : tie.Need-returns-3
+unfolding pendingOf
+returns-3 c = simp (c .before .if1 .left, c .drop-block2 .ensures)
+
+pub data-word-spec : {M : Type 1} → statement M
+data-word-spec = tie.close (tie.spec (λ c κs. search needs) (λ c. search needs) returns (λ c κs. search needs) returns-2 (λ c κs. search needs) returns-3)

@@ -1,0 +1,14 @@
+-- `rig::words::store` meets its contract: past the end `set` changes nothing.
+-- Assumes nothing.
+use mathlib.Core.Path.{sym}
+use native.Mathlib.Omega.{arith}
+use lib.Seq.{set-out}
+use borrow.Author.Needs.{needs}
+use Rattle.rig.proofs.words.store.Statement.{statement}
+use Rattle.rig.proofs.words.store.Tie as tie
+
+returns-2 : tie.Need-returns-2
+returns-2 c = sym (set-out _ _ _ (omega arith))
+
+pub store-spec : {M : Type 1} → statement M
+store-spec = tie.close (tie.spec (λ c. search needs) (λ c. search needs) returns-2)
