@@ -1,0 +1,2 @@
+-- The sheet in volts (01, "Volts").
+pub mod Volts
