@@ -39,7 +39,7 @@ use denote.Triple.Table.{entered, cited}
 use denote.Triple.Walked.{says, Stays, stay-ref, walkOf, AllGo, goes-ref, Walks, ends-at, walked, walk-meets}
 use Rattle.supply.specs.Rules.{stepped, withLevel}
 use Rattle.supply.specs.declared.Supply.{Supply}
-use Rattle.supply.proofs.Walk.{level-alone}
+use Rattle.supply.proofs.Ramp.{level-alone}
 use Rattle.supply.proofs.Supply as T
 use Rattle.supply.proofs.Supply.Laws as T′
 use Rattle.supply.proofs.next_level as next
