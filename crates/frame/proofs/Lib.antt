@@ -2,3 +2,4 @@
 pub mod Copy
 pub mod Place
 pub mod Rows
+pub mod Came

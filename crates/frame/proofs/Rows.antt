@@ -1,8 +1,11 @@
 -- What the table of rows keeps in every row: computed over the table, used at each row.
 -- Assumes nothing.
 use Prim.Native.Nat.{ℕ, _<_}
-use lib.Dec.{ltb, ltb→lt}
+use lib.Dec.{T, ltb, ltb→lt}
 use Rattle.base.proofs.Table.{below}
+use Rattle.frame.specs.declared.Item.{Item}
+use Rattle.frame.specs.declared.Item.the-variants.{Parallel, Multiplexer1, Multiplexer2, Multiplexer3, ErrorCode, DirectionStop, DirectionStart, EnergyStop, EnergyStart, LastInvalidCode, IelEnable, ReducedCounter, Bias, Relay, Ground, Stepping, Limit, Level, Flap1, Flap2, Flap3, IelClock, LastCheck, InvalidCount, HeadMask, LongCounter, FreeTime}
+use Rattle.frame.specs.Items.{rowOf}
 use Rattle.frame.specs.Read.{byteOf, divOf, remOf, periodOf}
 
 module _ (k : ℕ) (h : k < 27) where
@@ -17,3 +20,36 @@ module _ (k : ℕ) (h : k < 27) where
 
   pub period-pos : 0 < periodOf k
   period-pos = ltb→lt _ _ (below (λ (j : ℕ). ltb 0 (periodOf j)) 27 tt k h)
+
+-- every item has a row
+row-test : (x : Item) → T (ltb (rowOf x) 27)
+row-test Parallel = tt
+row-test Multiplexer1 = tt
+row-test Multiplexer2 = tt
+row-test Multiplexer3 = tt
+row-test ErrorCode = tt
+row-test DirectionStop = tt
+row-test DirectionStart = tt
+row-test EnergyStop = tt
+row-test EnergyStart = tt
+row-test LastInvalidCode = tt
+row-test IelEnable = tt
+row-test ReducedCounter = tt
+row-test Bias = tt
+row-test Relay = tt
+row-test Ground = tt
+row-test Stepping = tt
+row-test Limit = tt
+row-test Level = tt
+row-test Flap1 = tt
+row-test Flap2 = tt
+row-test Flap3 = tt
+row-test IelClock = tt
+row-test LastCheck = tt
+row-test InvalidCount = tt
+row-test HeadMask = tt
+row-test LongCounter = tt
+row-test FreeTime = tt
+
+pub row-lt : (x : Item) → rowOf x < 27
+row-lt x = ltb→lt _ _ (row-test x)

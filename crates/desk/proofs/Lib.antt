@@ -1,0 +1,2 @@
+-- Laws that the proofs of `desk` are written with.
+pub mod Laws

@@ -1,0 +1,13 @@
+-- `desk::kept` meets its contract: a value is half read, and the next index must come.
+-- Assumes nothing.
+use mathlib.Core.Path.{sym, ap}
+use borrow.Author.Needs.{needs}
+use Rattle.desk.specs.Desk.{keptAt}
+use Rattle.desk.proofs.kept.Statement.{statement}
+use Rattle.desk.proofs.kept.Tie as tie
+
+returns-2 : tie.Need-returns-2
+returns-2 c = sym (ap (keptAt (c .before .before .before .args .i)) (c .before .s .given .1))
+
+pub kept-spec : {M : Type 1} → statement M
+kept-spec = tie.close (tie.spec (λ c. search needs) (λ c. search needs) (λ c. search needs) (λ c. search needs) returns-2)

@@ -1,0 +1,112 @@
+-- What the desk does at a slot, and what it then shows (01, "The 40-byte frame", the paragraph "The desk takes slots").
+-- The rows of the items, what a frame carries and what arrived are those of `frame`. Assumes nothing.
+use mathlib.Core.Bool.{Bool, true, false}
+use mathlib.Core.List.{List}
+use Prim.Native.Nat.{ℕ, zero, suc, _+_, _*_, _%_}
+use lib.Dec.{eqb, ltb}
+use lib.ListN.{getD, set, replicate}
+use Rattle.base.specs.Pick.{pick}
+use Rattle.base.specs.Counts.{frames, slotOlder}
+use Rattle.frame.specs.declared.Arrived.{Arrived}
+use Rattle.frame.specs.declared.Arrived.the-variants as arrived
+use Rattle.frame.specs.declared.Reading.{Reading}
+use Rattle.frame.specs.declared.Reading.the-variants as reading
+use Rattle.frame.specs.Read.{indexOf, fieldOf, carries, bornOf, arrivedOf}
+use Rattle.desk.specs.declared.Shown.{Shown}
+use Rattle.desk.specs.declared.Shown.the-variants.{Unknown, Known}
+use Rattle.desk.specs.declared.Cell.{Cell}
+use Rattle.desk.specs.declared.Half.{Half}
+use Rattle.desk.specs.declared.Half.the-variants.{Nothing, Part}
+use Rattle.desk.specs.declared.Desk.{Desk}
+use Rattle.desk.specs.declared.Answer.{Answer}
+use Rattle.desk.specs.declared.Answer.the-variants.{Heard, Missed, Refused}
+use Rattle.desk.specs.declared.Received.{Received}
+
+-- one slot later: ages stop at 65,535
+abbrev pub agedOf : Shown → Shown
+agedOf Unknown = Unknown
+agedOf (Known v a) = Known v (slotOlder a)
+
+-- after a slot that by itself shows the first: "each newly complete value replaces the older one"
+abbrev pub latestOf : Shown → Shown → Shown
+latestOf (Known v a) old = Known v a
+latestOf Unknown old = agedOf old
+
+-- the bytes so far with byte b of the frame of index i; "an index that isn't the next one discards a half-read spread number"
+abbrev pub joined : Half → ℕ → ℕ → Shown
+joined Nothing i b = Unknown
+joined (Part n acc) i b = pick (eqb n i) (Known (acc % 0x1000000 * 256 + b) (frames 0)) Unknown
+
+-- "a spread number begins only at its first frame": 0 for the long EDB counter, 27 for the free time
+abbrev pub grownOf : Half → ℕ → ℕ → Shown
+grownOf half i b = pick (eqb i 0) (Known b (frames 0)) (pick (eqb i 27) (Known b (frames 0)) (joined half i b))
+
+-- the same value at age a
+abbrev pub bornAt : ℕ → Shown → Shown
+bornAt a Unknown = Unknown
+bornAt a (Known v b) = Known v (frames a)
+
+-- a plain item is as old as its frame
+abbrev pub plainOf : Reading → Shown
+plainOf reading.Nothing = Unknown
+plainOf (reading.Value v) = Known v (frames 0)
+
+-- what a whole frame by itself shows of the item in row k: a plain item at age 0; a spread number, where its last byte comes, at the age
+-- of its first frame
+unfoldable pub readingOf : Half → List ℕ → ℕ → Shown
+readingOf half f k =
+    pick (carries k (indexOf f))
+    (pick (ltb k 25) (Known (fieldOf f k) (frames 0)) (bornAt (bornOf k) (grownOf half (indexOf f) (getD f 39 0))))
+    Unknown
+
+abbrev pub keptAt : ℕ → Shown → Half
+keptAt i Unknown = Nothing
+keptAt i (Known v a) = Part (i + 1) v
+
+-- frames after which a spread number is half read: 0, 1, 2 and 27
+abbrev pub partly : ℕ → Bool
+partly i = pick (ltb i 3) true (eqb i 27)
+
+-- what is half read after a whole frame, of index i with byte 39 b
+abbrev pub halfAt : Half → ℕ → ℕ → Half
+halfAt half i b = pick (partly i) (keptAt i (grownOf half i b)) Nothing
+
+unfoldable pub halfAfter : Half → List ℕ → Half
+halfAfter half f = halfAt half (indexOf f) (getD f 39 0)
+
+abbrev pub blank : Cell
+blank = record { shown = Unknown }
+
+-- the cells after a slot that by itself shows f k of the item in row k
+unfoldable pub cellsAfter : (ℕ → Shown) → ℕ → List Cell → List Cell
+cellsAfter f zero cs = cs
+cellsAfter f (suc n) cs = set (cellsAfter f n cs) n (record { shown = latestOf (f n) (getD cs n blank .shown) })
+
+-- a fresh desk
+abbrev pub freshDesk : Desk
+freshDesk = record { cells = replicate 27 blank; half = Nothing }
+
+-- what a desk shows of the item in row k
+abbrev pub shows : Desk → ℕ → Shown
+shows d k = getD (d .cells) k blank .shown
+
+-- a miss shows nothing, and discards what is half read
+abbrev pub nothing : ℕ → Shown
+nothing k = Unknown
+
+abbrev pub missedOf : Desk → Desk
+missedOf d = record { cells = cellsAfter nothing 27 (d .cells); half = Nothing }
+
+-- a whole frame
+abbrev pub heardOf : Desk → List ℕ → Desk
+heardOf d f = record { cells = cellsAfter (readingOf (d .half) f) 27 (d .cells); half = halfAfter (d .half) f }
+
+-- by what arrived: a whole frame is heard, fill is a miss; where the bytes are refused (17) nothing changes and no slot passes
+abbrev pub tookOf : Desk → List ℕ → Arrived → Received
+tookOf d f (arrived.Whole i b) = record { answer = Heard; desk = heardOf d f }
+tookOf d f arrived.FillC0 = record { answer = Missed; desk = missedOf d }
+tookOf d f arrived.FillFF = record { answer = Missed; desk = missedOf d }
+tookOf d f (arrived.Refused r) = record { answer = Refused r; desk = d }
+
+unfoldable pub slotOf : Desk → List ℕ → Received
+slotOf d f = tookOf d f (arrivedOf f)

@@ -1,0 +1,2 @@
+-- What the desk does at a slot.
+pub mod Desk
