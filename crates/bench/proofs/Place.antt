@@ -1,0 +1,65 @@
+-- Where the frame stands in the caller's buffer once it is built.
+-- Assumes nothing.
+use mathlib.Core.Path.{_≡_, refl, sym, ap, _∙_}
+use mathlib.Core.Bool.{Bool, true, false}
+use mathlib.Core.List.{List, _++_}
+use Prim.Native.Nat.{ℕ, _+_, _-_, _≤_}
+use native.Mathlib.Omega.{arith}
+use lib.Dec.{ltb}
+use lib.ListN.{length, take, drop}
+use lib.Seq.{length-take-le, drop-at, take-at}
+use borrow.Author.Tests.{ltb-false}
+use Rattle.base.proofs.Cases.{split}
+use Rattle.frame.specs.declared.Refusal.{Refusal}
+use Rattle.frame.specs.declared.Wrote.{Wrote}
+use Rattle.frame.specs.declared.Wrote.the-variants.{Done, Refused}
+use Rattle.frame.specs.Write.{wroteOf, frameOf}
+use Rattle.frame.proofs.Place.{frame-length, room}
+use Rattle.rig.specs.declared.Rig.{Rig}
+use Rattle.rig.specs.Frames.{heldOf, nextLatch, sentWith, filledOf}
+use Rattle.desk.specs.Desk.{slotOf}
+use Rattle.bench.specs.declared.Bench.{Bench}
+use Rattle.bench.specs.declared.Sent.{Sent}
+use Rattle.bench.specs.Bench.{withRig, withDesk, builtBench, handedOf, nextFrame, heardIf, arrivedBench}
+
+-- a frame that was written had room
+pub had-room : (at : ℕ) (s : List ℕ) → wroteOf at s ≡ Done → at + 40 ≤ length s
+had-room at s e =
+    split (ltb (length s) (at + 40))
+    (λ t. let z : _≡_ {A = ℕ} 0 1 = cc (simp t at e) in absurd (omega arith))
+    (λ f. ltb-false _ _ f)
+
+-- the 40 bytes from the named place on are the frame
+pub stands : (r : Rig) (s : List ℕ) (at : ℕ) → at + 40 ≤ length s → take 40 (drop at (filledOf r s at)) ≡ nextFrame r
+stands r s at h =
+    let i = r .sending .next in
+    let l = nextLatch r in
+    ap (λ (x : List ℕ). take 40 (drop at x)) (room (heldOf r) i l at s h .1)
+    ∙ ap (take 40) (drop-at (take at s) (frameOf (heldOf r) i l ++ drop (at + 40) s) at (length-take-le at s (omega arith)))
+    ∙ take-at (frameOf (heldOf r) i l) (drop (at + 40) s) 40 (frame-length (heldOf r) i l)
+
+-- the bytes from the named place to its end
+pub part : (s : List ℕ) (at : ℕ) → take (at + 40 - at) (drop at s) ≡ take 40 (drop at s)
+part s at = let e : at + 40 - at ≡ 40 = omega arith in rw e
+
+done : (x : Wrote) (b : Bench) → x ≡ Done
+    → _≡_ {A = Sent} (record { bench = withDesk (withRig b (sentWith x (b .rig) (nextLatch (b .rig)))) (slotOf (b .desk) (nextFrame (b .rig)) .desk); wrote = x })
+    (record { bench = heardIf x b; wrote = x })
+done x b e = rw e
+
+abbrev sentFrom : Bench → List ℕ → ℕ → List ℕ → Sent
+sentFrom b s at x = record { bench = handedOf (builtBench b s at .bench) x .bench; wrote = wroteOf at s }
+
+-- a frame built and then handed to the desk from the buffer
+pub handed-on : (b : Bench) (s : List ℕ) (at : ℕ) → wroteOf at s ≡ Done
+    → _≡_ {A = Sent} (record { bench = handedOf (builtBench b s at .bench) (take (at + 40 - at) (drop at (filledOf (b .rig) s at))) .bench; wrote = wroteOf at s })
+    (arrivedBench b s at)
+handed-on b s at e =
+    let f : take (at + 40 - at) (drop at (filledOf (b .rig) s at)) ≡ nextFrame (b .rig) =
+    part (filledOf (b .rig) s at) at ∙ stands (b .rig) s at (had-room at s e) in
+    ap (λ (x : List ℕ). sentFrom b s at x) f ∙ done (wroteOf at s) b e
+
+-- where nothing was written, nothing was handed on
+pub refused : (x : Wrote) (b : Bench) (why : Refusal) → x ≡ Refused why
+    → _≡_ {A = Sent} (record { bench = withRig b (sentWith x (b .rig) (nextLatch (b .rig))); wrote = x }) (record { bench = heardIf x b; wrote = x })
+refused x b why e = rw e

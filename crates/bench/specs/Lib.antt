@@ -1,0 +1,2 @@
+-- A rig and a desk together.
+pub mod Bench
