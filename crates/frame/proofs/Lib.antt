@@ -3,3 +3,8 @@ pub mod Copy
 pub mod Place
 pub mod Rows
 pub mod Came
+pub mod Each
+pub mod Back
+pub mod Tells
+pub mod Unread
+pub mod Laws

@@ -1,7 +1,9 @@
 -- What the table of rows keeps in every row: computed over the table, used at each row.
 -- Assumes nothing.
-use Prim.Native.Nat.{ℕ, _<_}
-use lib.Dec.{T, ltb, ltb→lt}
+use mathlib.Core.Path.{_≡_}
+use Prim.Native.Nat.{ℕ, _%_, _<_}
+use native.Mathlib.Nat.{dvd-of-mod-eq-zero, mod-mod-of-dvd}
+use lib.Dec.{T, eqb, ltb, eqb→eq, ltb→lt}
 use Rattle.base.proofs.Table.{below}
 use Rattle.frame.specs.declared.Item.{Item}
 use Rattle.frame.specs.declared.Item.the-variants.{Parallel, Multiplexer1, Multiplexer2, Multiplexer3, ErrorCode, DirectionStop, DirectionStart, EnergyStop, EnergyStart, LastInvalidCode, IelEnable, ReducedCounter, Bias, Relay, Ground, Stepping, Limit, Level, Flap1, Flap2, Flap3, IelClock, LastCheck, InvalidCount, HeadMask, LongCounter, FreeTime}
@@ -20,6 +22,11 @@ module _ (k : ℕ) (h : k < 27) where
 
   pub period-pos : 0 < periodOf k
   period-pos = ltb→lt _ _ (below (λ (j : ℕ). ltb 0 (periodOf j)) 27 tt k h)
+
+  -- the 32 indices are whole rounds of each period
+  pub rounds : (i : ℕ) → i % 32 % periodOf k ≡ i % periodOf k
+  rounds i =
+      mod-mod-of-dvd (periodOf k) i (dvd-of-mod-eq-zero _ (eqb→eq _ _ (below (λ (j : ℕ). eqb (32 % periodOf j) 0) 27 tt k h)))
 
 -- every item has a row
 row-test : (x : Item) → T (ltb (rowOf x) 27)

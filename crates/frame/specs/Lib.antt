@@ -2,3 +2,4 @@
 pub mod Items
 pub mod Write
 pub mod Read
+pub mod Laws

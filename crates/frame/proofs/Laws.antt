@@ -1,0 +1,49 @@
+-- The laws of the frame hold.
+-- Assumes nothing.
+use mathlib.Core.Path.{_≡_, refl, sym, ap, _∙_}
+use mathlib.Core.Bool.{Bool, true, false}
+use Prim.Native.Nat.{ℕ, _%_, _<_}
+use native.Mathlib.Nat.{mod-mod}
+use native.Mathlib.Omega.{arith}
+use lib.Dec.{eqb}
+use borrow.Author.Tests.{eqb-true, lt-ltb}
+use Rattle.frame.specs.declared.Held.{Held}
+use Rattle.frame.specs.declared.Reading.the-variants.{Nothing, Value}
+use Rattle.frame.specs.Items.{heldAt}
+use Rattle.frame.specs.Write.{frameOf}
+use Rattle.frame.specs.Read.{remOf, phaseOf, carries, indexOf, fieldOf, readOf}
+use Rattle.frame.specs.Laws.{Laws}
+use Rattle.frame.proofs.Rows.{rounds}
+use Rattle.frame.proofs.Back.{field-back}
+use Rattle.frame.proofs.Tells.{hides, long-is, free-is, unlatched, stays, whole, no-fill}
+use Rattle.frame.proofs.Unread.{index-same, read-same, spread-same}
+
+module _ (h : Held) (i l k : ℕ) (b : k < 25) where
+  carried : carries k (indexOf (frameOf h i l)) ≡ carries k i
+  unfolding frameOf
+  carried =
+      ap (λ (n : ℕ). eqb n (phaseOf k)) (rounds k (omega arith) (i % 32) ∙ rounds k (omega arith) i)
+
+  back : carries k i ≡ true → readOf (frameOf h i l) k ≡ Value (heldAt h k % remOf k)
+  unfolding readOf
+  back e = unfold frameOf in rw (lt-ltb _ _ b, carried ∙ e) (ap Value (field-back h i l k b (eqb-true _ _ e)))
+
+  silent : carries k i ≡ false → readOf (frameOf h i l) k ≡ Nothing
+  unfolding readOf
+  silent e = unfold frameOf in rw (lt-ltb _ _ b, carried ∙ e)
+
+pub laws : Laws
+laws =
+    record {
+      back = back;
+      silent = silent;
+      hides = λ h g i l k b. hides h g i l k;
+      long = long-is;
+      free = free-is;
+      unlatched = unlatched;
+      stays = stays;
+      whole = whole;
+      no-fill = no-fill;
+      unread = λ f g a k. (index-same f g a, read-same f g a k);
+      unread-spread = spread-same;
+    }
