@@ -7,7 +7,7 @@ use Rattle.frame.specs.declared.Held.{Held}
 use Rattle.frame.specs.Items.{heldAt}
 use Rattle.frame.specs.Write.{quarterOf, groundAt, muxOf, frameOf}
 use Rattle.frame.specs.Read.{remOf, periodOf, phaseOf, fieldOf}
-use Rattle.frame.proofs.Each.{each}
+use Rattle.frame.proofs.Each.{each, _&_, end}
 
 module _ (h : Held) (i l : ℕ) where
   abbrev Back : ℕ → Type 0
@@ -17,75 +17,29 @@ module _ (h : Held) (i l : ℕ) where
   unfolding frameOf quarterOf groundAt muxOf
   field-back =
       each Back 25 (
-        λ e. omega arith,
-        (
-          λ e. omega arith,
-          (
-            λ e. omega arith,
-            (
-              λ e. omega arith,
-              (
-                λ e. omega arith,
-                (
-                  λ e. omega arith,
-                  (
-                    λ e. omega arith,
-                    (
-                      λ e. omega arith,
-                      (
-                        λ e. omega arith,
-                        (
-                          λ e. omega arith,
-                          (
-                            λ e. omega arith,
-                            (
-                              λ e. omega arith,
-                              (
-                                λ e. omega arith,
-                                (
-                                  λ e. omega arith,
-                                  (
-                                    λ e. rw e (omega arith),
-                                    (
-                                      λ e. rw e (omega arith),
-                                      (
-                                        λ e. rw e (omega arith),
-                                        (
-                                          λ e. rw e (omega arith),
-                                          (
-                                            λ e. rw e (omega arith),
-                                            (
-                                              λ e. rw e (omega arith),
-                                              (
-                                                λ e. rw e (omega arith),
-                                                (
-                                                  λ e. rw e (omega arith),
-                                                  (
-                                                    λ e. rw e (omega arith),
-                                                    (
-                                                      λ e. rw e (omega arith),
-                                                      (λ e. rw e (omega arith), tt),
-                                                    ),
-                                                  ),
-                                                ),
-                                              ),
-                                            ),
-                                          ),
-                                        ),
-                                      ),
-                                    ),
-                                  ),
-                                ),
-                              ),
-                            ),
-                          ),
-                        ),
-                      ),
-                    ),
-                  ),
-                ),
-              ),
-            ),
-          ),
-        ),
-      )
+      (λ e. omega arith)
+      & (λ e. omega arith)
+      & (λ e. omega arith)
+      & (λ e. omega arith)
+      & (λ e. omega arith)
+      & (λ e. omega arith)
+      & (λ e. omega arith)
+      & (λ e. omega arith)
+      & (λ e. omega arith)
+      & (λ e. omega arith)
+      & (λ e. omega arith)
+      & (λ e. omega arith)
+      & (λ e. omega arith)
+      & (λ e. omega arith)
+      & (λ e. rw e (omega arith))
+      & (λ e. rw e (omega arith))
+      & (λ e. rw e (omega arith))
+      & (λ e. rw e (omega arith))
+      & (λ e. rw e (omega arith))
+      & (λ e. rw e (omega arith))
+      & (λ e. rw e (omega arith))
+      & (λ e. rw e (omega arith))
+      & (λ e. rw e (omega arith))
+      & (λ e. rw e (omega arith))
+      & (λ e. rw e (omega arith))
+      & end)

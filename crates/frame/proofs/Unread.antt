@@ -13,7 +13,7 @@ use borrow.Author.Tests.{eq-eqb, eqb-true, ltb-true}
 use Rattle.frame.specs.declared.Reading.the-variants.{Nothing, Value}
 use Rattle.frame.specs.Read.{periodOf, phaseOf, carries, indexOf, fieldOf, readOf}
 use Rattle.frame.specs.Laws.{byte39, spreads, mask37, mask38, mask39, masks, Frame, Alike}
-use Rattle.frame.proofs.Each.{each}
+use Rattle.frame.proofs.Each.{each, _&_, end}
 use Rattle.frame.proofs.Tells.{pick-same}
 
 -- the j bits from bit k on, where the mask has them all
@@ -55,78 +55,32 @@ module _ (f g : List ℕ) (a : Alike f g) where
   field-same : (k : ℕ) → k < 25 → Same k
   field-same =
       each Same 25 (
-        λ e. (let p = part 1 0x40 6 1 refl refl in omega arith),
-        (
-          λ e. (let p = part 6 0x49 0 1 refl refl in omega arith),
-          (
-            λ e. (let p = part 6 0x49 3 1 refl refl in omega arith),
-            (
-              λ e. (let p = part 6 0x49 6 1 refl refl in omega arith),
-              (
-                λ e. (let p = part 7 0xF0 4 4 refl refl in omega arith),
-                (
-                  λ e. (let p = part 8 0x0F 0 4 refl refl in let q = byte-same 9 refl in omega (arith, a .first .bytes 9)),
-                  (
-                    λ e. (let q = byte-same 9 refl in omega arith),
-                    (
-                      λ e. (let p = byte-same 9 refl in let q = byte-same 10 refl in rw (p, q)),
-                      (
-                        λ e. (let q = byte-same 10 refl in omega arith),
-                        (
-                          λ e. (let q = byte-same 16 refl in omega arith),
-                          (
-                            λ e. (let p = part 19 0x80 7 1 refl refl in omega arith),
-                            (
-                              λ e. (let p = part 20 0x3F 0 6 refl refl in omega arith),
-                              (
-                                λ e. (let q = byte-same 36 refl in omega arith),
-                                (
-                                  λ e. (let p = part 2 0x40 6 1 refl refl in omega arith),
-                                  (
-                                    λ e. (let q = byte-same 38 (rw e) in omega arith),
-                                    (
-                                      λ e. (let p = part 37 0x10 4 1 (rw e) refl in omega arith),
-                                      (
-                                        λ e. (let p = part 37 0xF0 4 4 (rw e) refl in omega arith),
-                                        (
-                                          λ e. (let p = part 37 0xF0 4 4 (rw e) refl in omega arith),
-                                          (
-                                            λ e. (let p = part 39 0xF0 4 1 (at 12 e) refl in omega arith),
-                                            (
-                                              λ e. (let p = part 39 0xF0 5 1 (at 12 e) refl in omega arith),
-                                              (
-                                                λ e. (let p = part 39 0xF0 6 1 (at 12 e) refl in omega arith),
-                                                (
-                                                  λ e. (let p = part 39 0xF0 7 1 (at 12 e) refl in omega arith),
-                                                  (
-                                                    λ e. (let q = byte-same 39 (at 21 e) in omega arith),
-                                                    (
-                                                      λ e. (let q = byte-same 39 (at 22 e) in omega arith),
-                                                      (λ e. (let p = part 39 0x70 4 3 (at 31 e) refl in omega arith), tt),
-                                                    ),
-                                                  ),
-                                                ),
-                                              ),
-                                            ),
-                                          ),
-                                        ),
-                                      ),
-                                    ),
-                                  ),
-                                ),
-                              ),
-                            ),
-                          ),
-                        ),
-                      ),
-                    ),
-                  ),
-                ),
-              ),
-            ),
-          ),
-        ),
-      )
+      (λ e. let p = part 1 0x40 6 1 refl refl in omega arith)
+      & (λ e. let p = part 6 0x49 0 1 refl refl in omega arith)
+      & (λ e. let p = part 6 0x49 3 1 refl refl in omega arith)
+      & (λ e. let p = part 6 0x49 6 1 refl refl in omega arith)
+      & (λ e. let p = part 7 0xF0 4 4 refl refl in omega arith)
+      & (λ e. let p = part 8 0x0F 0 4 refl refl in let q = byte-same 9 refl in omega (arith, a .first .bytes 9))
+      & (λ e. let q = byte-same 9 refl in omega arith)
+      & (λ e. let p = byte-same 9 refl in let q = byte-same 10 refl in rw (p, q))
+      & (λ e. let q = byte-same 10 refl in omega arith)
+      & (λ e. let q = byte-same 16 refl in omega arith)
+      & (λ e. let p = part 19 0x80 7 1 refl refl in omega arith)
+      & (λ e. let p = part 20 0x3F 0 6 refl refl in omega arith)
+      & (λ e. let q = byte-same 36 refl in omega arith)
+      & (λ e. let p = part 2 0x40 6 1 refl refl in omega arith)
+      & (λ e. let q = byte-same 38 (rw e) in omega arith)
+      & (λ e. let p = part 37 0x10 4 1 (rw e) refl in omega arith)
+      & (λ e. let p = part 37 0xF0 4 4 (rw e) refl in omega arith)
+      & (λ e. let p = part 37 0xF0 4 4 (rw e) refl in omega arith)
+      & (λ e. let p = part 39 0xF0 4 1 (at 12 e) refl in omega arith)
+      & (λ e. let p = part 39 0xF0 5 1 (at 12 e) refl in omega arith)
+      & (λ e. let p = part 39 0xF0 6 1 (at 12 e) refl in omega arith)
+      & (λ e. let p = part 39 0xF0 7 1 (at 12 e) refl in omega arith)
+      & (λ e. let q = byte-same 39 (at 21 e) in omega arith)
+      & (λ e. let q = byte-same 39 (at 22 e) in omega arith)
+      & (λ e. let p = part 39 0x70 4 3 (at 31 e) refl in omega arith)
+      & end)
 
   pub read-same : (k : ℕ) → readOf f k ≡ readOf g k
   unfolding readOf
