@@ -1,0 +1,3 @@
+-- The laws of the command table, and single outcome.
+pub mod Table
+pub mod Outcome

@@ -1,0 +1,143 @@
+-- The laws of the command table (specs/Table.antt). A byte's bits under a mask are all that a rule reads of it: one test, computed for the 256 bytes.
+-- Assumes nothing.
+use mathlib.Core.Path.{_≡_, refl, sym, ap, _∙_}
+use mathlib.Core.Bool.{Bool, true, false}
+use mathlib.Core.Logic.{_⊎_, inl, inr, ⊎-elim}
+use mathlib.Core.List.{List, [], _∷_}
+use Prim.Native.Nat.{ℕ, _/_, _%_, _≤_, _<_}
+use native.Mathlib.Omega.{arith}
+use lib.Bits.{bitAnd}
+use lib.Dec.{T, eqb, eqb→eq}
+use borrow.Author.Tests.{ne-eqb}
+use Rattle.base.specs.Pick.{pick}
+use Rattle.base.proofs.Table.{allBelow, below}
+use Rattle.supply.specs.declared.Refusal.{Refusal as SupplyRefusal}
+use Rattle.supply.specs.declared.Refusal.the-variants as supply
+use Rattle.supply.specs.Rules.{relayed, targeted, limited, switched, numberOf as supplyNumberOf}
+use Rattle.judge.specs.declared.Core.{Core}
+use Rattle.judge.specs.declared.Refusal.{Refusal}
+use Rattle.judge.specs.declared.Refusal.the-variants.{RelayOff, Disabled, OverLimit, StrayWord, RelayBits, WrongCheck, Unsettled, OutOfRange, WrongCount, UnknownCode}
+use Rattle.judge.specs.declared.Verdict.{Verdict}
+use Rattle.judge.specs.declared.Verdict.the-variants.{Deny}
+use Rattle.judge.specs.Refusals.{numberOf, raised}
+use Rattle.judge.specs.Commands.{carried, relayCmd, ielCmd, maskCmd, targetCmd, limitCmd, modeCmd, steppingCmd, singleOf, muxSet, directionSet, energySet, countedOf, blockOf}
+use Rattle.judge.specs.Table.{singles, blocks, NoneOf, named, named2, Agree, TableLaws}
+
+numbers : (r : Refusal) → ((0x04 ≤ numberOf r) × (numberOf r ≤ 0x06)) ⊎ ((0x0B ≤ numberOf r) × (numberOf r ≤ 0x0F))
+numbers RelayOff = inl (omega arith, omega arith)
+numbers Disabled = inl (omega arith, omega arith)
+numbers OverLimit = inl (omega arith, omega arith)
+numbers StrayWord = inr (omega arith, omega arith)
+numbers RelayBits = inr (omega arith, omega arith)
+numbers WrongCheck = inr (omega arith, omega arith)
+numbers Unsettled = inr (omega arith, omega arith)
+numbers OutOfRange = inr (omega arith, omega arith)
+numbers WrongCount = inr (omega arith, omega arith)
+numbers UnknownCode = inr (omega arith, omega arith)
+
+kept : (r : SupplyRefusal) → numberOf (raised r) ≡ supplyNumberOf r
+kept supply.RelayOff = refl
+kept supply.Disabled = refl
+kept supply.OverLimit = refl
+kept supply.RelayBits = refl
+kept supply.Unsettled = refl
+kept supply.OutOfRange = refl
+
+unknown : (c : Core) (code low : ℕ) → NoneOf singles code → singleOf c code low ≡ Deny UnknownCode
+unfolding singleOf
+unknown c code low h =
+    simp (ne-eqb _ _ (h .0), ne-eqb _ _ (h .1 .0), ne-eqb _ _ (h .1 .1 .0), ne-eqb _ _ (h .1 .1 .1 .0), ne-eqb _ _ (h .1 .1 .1 .1 .0), ne-eqb _ _ (h .1 .1 .1 .1 .1 .0), ne-eqb _ _ (h .1 .1 .1 .1 .1 .1 .0))
+
+unknown2 : (c : Core) (code n x y : ℕ) → NoneOf blocks code → blockOf c code n x y ≡ Deny UnknownCode
+unfolding blockOf
+unknown2 c code n x y h = simp (ne-eqb _ _ (h .0), ne-eqb _ _ (h .1 .0), ne-eqb _ _ (h .1 .1 .0))
+
+-- f reads of a byte what the mask leaves, so it is the same on bytes that agree
+module _ (mask : ℕ) (f : ℕ → ℕ) (t : T (allBelow (λ x. eqb (f (bitAnd x mask)) (f x)) 0x100)) where
+  seen : (a : ℕ) → a < 0x100 → f (bitAnd a mask) ≡ f a
+  seen a h = eqb→eq (f (bitAnd a mask)) (f a) (below (λ x. eqb (f (bitAnd x mask)) (f x)) 0x100 t a h)
+
+  reads : (a b : ℕ) → a < 0x100 → b < 0x100 → Agree mask a b → f a ≡ f b
+  reads a b ha hb e = sym (seen a ha) ∙ ap f e ∙ seen b hb
+
+-- one row of a table of masks beside the same row of a table of verdicts
+row : {A : Type 0} (P : A → Type 0) (t : Bool) {m n : A} {v w v' w' : Verdict} → (P m → v ≡ v') → (P n → w ≡ w') → P (pick t m n) → pick t v w ≡ pick t v' w'
+row P true f g h = f h
+row P false f g h = g h
+
+module _ (c : Core) (a b : ℕ) (ha : a < 0x100) (hb : b < 0x100) where
+  relay-same : Agree 0x22 a b → relayCmd c a ≡ relayCmd c b
+  unfolding relayed
+  relay-same e = simp (reads 0x22 (λ x. x / 2 % 2) tt a b ha hb e, reads 0x22 (λ x. x / 32 % 2) tt a b ha hb e)
+
+  iel-same : Agree 0x03 a b → ielCmd c a ≡ ielCmd c b
+  iel-same e = simp (reads 0x03 (λ x. x % 2) tt a b ha hb e, reads 0x03 (λ x. x / 2 % 2) tt a b ha hb e)
+
+  mask-same : Agree 0x07 a b → maskCmd c a ≡ maskCmd c b
+  mask-same e = simp (reads 0x07 (λ x. x % 8) tt a b ha hb e)
+
+  target-same : Agree 0x0F a b → targetCmd c a ≡ targetCmd c b
+  unfolding targeted
+  target-same e = simp (reads 0x0F (λ x. x % 16) tt a b ha hb e)
+
+  limit-same : Agree 0x0F a b → limitCmd c a ≡ limitCmd c b
+  unfolding limited
+  limit-same e = simp (reads 0x0F (λ x. x % 16) tt a b ha hb e)
+
+  whole-same : (cmd : Core → ℕ → Verdict) → Agree 0xFF a b → cmd c a ≡ cmd c b
+  whole-same cmd e = ap (cmd c) (reads 0xFF (λ x. x) tt a b ha hb e)
+
+ignored : (c : Core) (code a b : ℕ) → a < 0x100 → b < 0x100 → Agree (named code) a b → singleOf c code a ≡ singleOf c code b
+unfolding singleOf
+ignored c code a b ha hb =
+    let P : ℕ → Type 0 = λ m. Agree m a b in
+    row P (eqb code 0x08) (relay-same c a b ha hb) (
+    row P (eqb code 0x0C) (iel-same c a b ha hb) (
+    row P (eqb code 0x26) (mask-same c a b ha hb) (
+    row P (eqb code 0x28) (target-same c a b ha hb) (
+    row P (eqb code 0x29) (limit-same c a b ha hb) (
+    row P (eqb code 0x2B) (whole-same c a b ha hb modeCmd) (
+    row P (eqb code 0x2D) (whole-same c a b ha hb steppingCmd) (
+    λ _. refl)))))))
+
+module _ (c : Core) (n a x b y : ℕ) (ha : a < 0x100) (hx : x < 0x100) (hb : b < 0x100) (hy : y < 0x100) where
+  abbrev Both : ℕ × ℕ → Type 0
+  Both m = Agree (m .0) a b × Agree (m .1) x y
+
+  mux-same : Both (0xFF, 0x01) → muxSet c a x ≡ muxSet c b y
+  mux-same e = simp (reads 0xFF (λ z. z) tt a b ha hb (e .0), reads 0x01 (λ z. z % 2) tt x y hx hy (e .1))
+
+  window-same : (set : Core → ℕ → ℕ → Core) → ((c : Core) (i j k l : ℕ) → i % 32 ≡ k % 32 → j % 32 ≡ l % 32 → set c i j ≡ set c k l) → Both (0x1F, 0x1F) → set c a x ≡ set c b y
+  window-same set h e = h c a x b y (reads 0x1F (λ z. z % 32) tt a b ha hb (e .0)) (reads 0x1F (λ z. z % 32) tt x y hx hy (e .1))
+
+  ignored-both : (code : ℕ) → Both (named2 code) → blockOf c code n a x ≡ blockOf c code n b y
+  unfolding blockOf
+  ignored-both code =
+      row Both (eqb code 0x20) (λ e. ap (countedOf n) (mux-same e)) (
+      row Both (eqb code 0x23) (λ e. ap (countedOf n) (window-same directionSet (λ c i j k l p q. simp (p, q)) e)) (
+      row Both (eqb code 0x24) (λ e. ap (countedOf n) (window-same energySet (λ c i j k l p q. simp (p, q)) e)) (
+      λ _. refl)))
+
+pub laws : TableLaws
+unfolding singleOf blockOf
+laws =
+    record {
+      numbers = numbers;
+      never07 = λ r e. ⊎-elim (λ h. omega arith) (λ h. omega arith) (numbers r);
+      never03 = λ r e. ⊎-elim (λ h. omega arith) (λ h. omega arith) (numbers r);
+      kept = kept;
+      relay = λ c low. refl;
+      iel = λ c low. refl;
+      mask = λ c low. refl;
+      target = λ c low. refl;
+      limit = λ c low. refl;
+      mode = λ c low. refl;
+      stepping = λ c low. refl;
+      unknown = unknown;
+      mux = λ c n x y. refl;
+      direction = λ c n x y. refl;
+      energy = λ c n x y. refl;
+      unknown2 = unknown2;
+      ignored = ignored;
+      ignored2 = λ c code n a x b y ha hx hb hy e f. ignored-both c n a x b y ha hx hb hy code (e, f);
+    }

@@ -1,0 +1,78 @@
+-- What a reader may count on of the command table (01, "Command words"): its numbers, its lists of codes, the bits that each command reads.
+-- The record is proved in proofs/Table.antt. Assumes nothing.
+use Prim.Native.Nat.{ℕ, _≤_, _<_}
+use mathlib.Core.Path.{_≡_}
+use mathlib.Core.Logic.{_⊎_}
+use mathlib.Core.List.{List, [], _∷_}
+use lib.Bits.{bitAnd}
+use lib.Dec.{eqb}
+use Rattle.base.specs.Pick.{pick}
+use Rattle.supply.specs.declared.Refusal.{Refusal as SupplyRefusal}
+use Rattle.supply.specs.Rules as supply
+use Rattle.judge.specs.declared.Core.{Core}
+use Rattle.judge.specs.declared.Refusal.{Refusal}
+use Rattle.judge.specs.declared.Refusal.the-variants.{UnknownCode}
+use Rattle.judge.specs.declared.Verdict.the-variants.{Deny}
+use Rattle.judge.specs.Refusals.{numberOf, raised}
+use Rattle.judge.specs.Commands.{relayCmd, ielCmd, maskCmd, targetCmd, limitCmd, modeCmd, steppingCmd, singleOf, muxSet, directionSet, energySet, countedOf, blockOf}
+
+-- singles and blocks have separate code lists
+abbrev pub singles : List ℕ
+singles = 0x08 ∷ 0x0C ∷ 0x26 ∷ 0x28 ∷ 0x29 ∷ 0x2B ∷ 0x2D ∷ []
+
+abbrev pub blocks : List ℕ
+blocks = 0x20 ∷ 0x23 ∷ 0x24 ∷ []
+
+abbrev pub NoneOf : List ℕ → ℕ → Type 0
+NoneOf [] code = Unit
+NoneOf (k ∷ ks) code = (code ≡ k → ⊥) × NoneOf ks code
+
+-- The bits that the table names: of a single's low byte,
+abbrev pub named : ℕ → ℕ
+named code =
+    pick (eqb code 0x08) 0x22 ( -- bit 1 on, bit 5 off
+    pick (eqb code 0x0C) 0x03 ( -- bit 0 IEL clock, bit 1 IEL enable
+    pick (eqb code 0x26) 0x07 ( -- bits 2-0 head mask
+    pick (eqb code 0x28) 0x0F ( -- bits 3-0 new target
+    pick (eqb code 0x29) 0x0F ( -- bits 3-0 new limit
+    pick (eqb code 0x2B) 0xFF ( -- 0, 1 or other: the whole byte
+    pick (eqb code 0x2D) 0xFF ( -- 0, 1 or other: the whole byte
+    0x00)))))))
+
+-- and of a block's two bytes.
+abbrev pub named2 : ℕ → ℕ × ℕ
+named2 code =
+    pick (eqb code 0x20) (0xFF, 0x01) ( -- byte 1, then bit 0 of byte 2
+    pick (eqb code 0x23) (0x1F, 0x1F) ( -- start, stop: bits 4-0 of each
+    pick (eqb code 0x24) (0x1F, 0x1F) ( -- likewise
+    (0x00, 0x00))))
+
+-- two bytes have the same bits under a mask
+abbrev pub Agree : ℕ → ℕ → ℕ → Type 0
+Agree mask a b = bitAnd a mask ≡ bitAnd b mask
+
+pub record TableLaws : Type 0 where
+  -- the numbers given are 04h-06h and 0Bh-0Fh; 07h is never given, and 03h is no word's own (it is a dropped block's)
+  pub numbers : (r : Refusal) → ((0x04 ≤ numberOf r) × (numberOf r ≤ 0x06)) ⊎ ((0x0B ≤ numberOf r) × (numberOf r ≤ 0x0F))
+  pub never07 : (r : Refusal) → numberOf r ≡ 0x07 → ⊥
+  pub never03 : (r : Refusal) → numberOf r ≡ 0x03 → ⊥
+  -- a supply's refusal keeps its number
+  pub kept : (r : SupplyRefusal) → numberOf (raised r) ≡ supply.numberOf r
+  -- each listed single is judged by its own row, and an unknown single is 0Fh
+  pub relay : (c : Core) (low : ℕ) → singleOf c 0x08 low ≡ relayCmd c low
+  pub iel : (c : Core) (low : ℕ) → singleOf c 0x0C low ≡ ielCmd c low
+  pub mask : (c : Core) (low : ℕ) → singleOf c 0x26 low ≡ maskCmd c low
+  pub target : (c : Core) (low : ℕ) → singleOf c 0x28 low ≡ targetCmd c low
+  pub limit : (c : Core) (low : ℕ) → singleOf c 0x29 low ≡ limitCmd c low
+  pub mode : (c : Core) (low : ℕ) → singleOf c 0x2B low ≡ modeCmd c low
+  pub stepping : (c : Core) (low : ℕ) → singleOf c 0x2D low ≡ steppingCmd c low
+  pub unknown : (c : Core) (code low : ℕ) → NoneOf singles code → singleOf c code low ≡ Deny UnknownCode
+  -- each listed block is judged by its own row, and an unknown one is 0Fh, whatever its n
+  pub mux : (c : Core) (n x y : ℕ) → blockOf c 0x20 n x y ≡ countedOf n (muxSet c x y)
+  pub direction : (c : Core) (n x y : ℕ) → blockOf c 0x23 n x y ≡ countedOf n (directionSet c x y)
+  pub energy : (c : Core) (n x y : ℕ) → blockOf c 0x24 n x y ≡ countedOf n (energySet c x y)
+  pub unknown2 : (c : Core) (code n x y : ℕ) → NoneOf blocks code → blockOf c code n x y ≡ Deny UnknownCode
+  -- bits not named are ignored: bytes that agree on the named bits get the same verdict
+  pub ignored : (c : Core) (code a b : ℕ) → a < 0x100 → b < 0x100 → Agree (named code) a b → singleOf c code a ≡ singleOf c code b
+  pub ignored2 : (c : Core) (code n a x b y : ℕ) → a < 0x100 → x < 0x100 → b < 0x100 → y < 0x100
+      → Agree (named2 code .0) a b → Agree (named2 code .1) x y → blockOf c code n a x ≡ blockOf c code n b y
