@@ -49,12 +49,14 @@ After r w q (Plain Waiting) =
 -- refused: booked once, under the word's own high byte, or the head's where the word closed a block
 After r w q (Plain (Refused why)) =
     Unmoved r q × (q .faults ≡ booked (r .faults) (pick (r .pending .waiting) (r .pending .head) (highOf w)) (numberOf why))
--- swallowed: 03h
-After r w q Swallowed = Unmoved r q × (q .faults ≡ bookedDrop r)
--- dropped, then judged afresh: 03h, and what the second answer moves
-After r w q (Dropped Accepted) = (q .faults ≡ bookedDrop r) × (q .pending .waiting ≡ false)
-After r w q (Dropped Waiting) = (q .core ≡ r .core) × (q .faults ≡ bookedDrop r) × (q .pending ≡ newBlock (highOf w) (lowOf w))
-After r w q (Dropped (Refused why)) = Unmoved r q × (q .faults ≡ booked (bookedDrop r) (highOf w) (numberOf why))
+-- swallowed: a block was pending; 03h
+After r w q Swallowed = (r .pending .waiting ≡ true) × Unmoved r q × (q .faults ≡ bookedDrop r)
+-- dropped, then judged afresh: a block was pending; 03h, and what the second answer moves
+After r w q (Dropped Accepted) = (r .pending .waiting ≡ true) × (q .faults ≡ bookedDrop r) × (q .pending .waiting ≡ false)
+After r w q (Dropped Waiting) =
+    (r .pending .waiting ≡ true) × (q .core ≡ r .core) × (q .faults ≡ bookedDrop r) × (q .pending ≡ newBlock (highOf w) (lowOf w))
+After r w q (Dropped (Refused why)) =
+    (r .pending .waiting ≡ true) × Unmoved r q × (q .faults ≡ booked (bookedDrop r) (highOf w) (numberOf why))
 
 -- does the word close the pending block: an end word of its code, after exactly n data words?
 abbrev pub isEnd : Kind → Bool
