@@ -3,3 +3,4 @@ pub mod Tests
 pub mod Commands
 pub mod Words
 pub mod Replies
+pub mod Rows

@@ -1,9 +1,18 @@
--- What holds of both choices of a test holds of the choice.
+-- Proofs by a test: of a choice, and of two tests at once.
 -- Assumes nothing.
 use mathlib.Core.Path.{_≡_, refl}
-use mathlib.Core.Bool.{Bool, true, false}
+use mathlib.Core.Bool.{Bool, true, false, _&&_}
 use Rattle.base.specs.Pick.{pick}
 
+-- what holds of both choices, each where its test holds, holds of the choice
 pub by-test : {A : Type 0} {x y : A} (P : A → Type 0) (b : Bool) → (b ≡ true → P x) → (b ≡ false → P y) → P (pick b x y)
 by-test P true f g = f refl
 by-test P false f g = g refl
+
+pub and-left : (a b : Bool) → a && b ≡ true → a ≡ true
+and-left true b e = refl
+and-left false b e = e
+
+pub and-right : (a b : Bool) → a && b ≡ true → b ≡ true
+and-right true b e = e
+and-right false b e = cc

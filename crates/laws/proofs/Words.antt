@@ -21,7 +21,7 @@ use Rattle.rig.specs.declared.Judgement.{Judgement}
 use Rattle.rig.specs.declared.Taken.{Taken}
 use Rattle.rig.specs.Words.{highOf, lowOf, kindOf, codeOf, withPending, withCheck, nothingPending, newBlock, oneMore, settledOf, headOf, freshOf, sameCode, keeps, closes, checkOf, verdictOf, closedOf, plain, afterDrop, dropped, droppedOf, pendingOf, takeOf}
 use Rattle.laws.specs.Replies.{isEnd, closing}
-use Rattle.laws.proofs.Tests.{by-test}
+use Rattle.laws.proofs.Tests.{by-test, and-right}
 use Rattle.laws.proofs.Commands.{CoreFits, Keeps, single-keeps, verdict-keeps}
 
 -- a word judged with nothing pending: a verdict, or a new block
@@ -45,10 +45,6 @@ fresh-is r Single high low = judged (singleOf (r .core) (codeOf high) low) (sing
 fresh-is r Head high low = by-test (Fresh r high low) (ltb 79 low) (λ e. judged (Deny WrongCount) (λ h. tt)) (λ e. begun (ltb-false 79 low e))
 fresh-is r Data high low = judged (Deny StrayWord) (λ h. tt)
 fresh-is r End high low = judged (Deny StrayWord) (λ h. tt)
-
-and-right : (a b : Bool) → a && b ≡ true → b ≡ true
-and-right true b e = e
-and-right false b e = cc
 
 data-is : (r : Rig) (high low : ℕ) (b : Bool) → r .pending .waiting ≡ true → keeps (r .pending) high ≡ b → Case r high low false (pendingOf r Data high low)
 unfolding pendingOf droppedOf

@@ -1,0 +1,233 @@
+-- The command table row by row (specs/Rows). A row's one verdict is what its command's definition gives; that it is alone is the row's own table
+-- read the other way. The words of a row are put to the decoder's rule by arithmetic. Assumes nothing.
+use Prim.Native.Nat.{ℕ, _+_, _*_, _/_, _%_, _<_, _≤_}
+use mathlib.Core.Path.{_≡_, refl, ap, sym, _∙_}
+use mathlib.Core.Bool.{Bool, true, false, _&&_}
+use mathlib.Core.Logic.{_↔_}
+use native.Mathlib.Omega.{arith}
+use lib.Dec.{eqb, ltb}
+use borrow.Author.Tests.{eqb-true, eqb-false, eq-eqb, ne-eqb, lt-ltb, le-ltb}
+use Rattle.base.specs.Pick.{pick}
+use Rattle.base.proofs.Cases.{split}
+use Rattle.supply.specs.declared.Supply.{Supply}
+use Rattle.supply.specs.declared.Change.{Change}
+use Rattle.supply.specs.Rules.{relayed, targeted, limited, switched}
+use Rattle.supply.specs.When.{RelayWhen, TargetWhen, LimitWhen, StepWhen}
+use Rattle.supply.proofs.When.{relayed-when, targeted-when, limited-when, switched-when}
+use Rattle.crc.specs.Judged.{judgeOf}
+use Rattle.judge.specs.declared.Core.{Core}
+use Rattle.judge.specs.declared.Verdict.{Verdict}
+use Rattle.judge.specs.declared.Verdict.the-variants.{Apply, Deny}
+use Rattle.judge.specs.declared.Refusal.the-variants.{StrayWord, WrongCount, UnknownCode}
+use Rattle.judge.specs.Commands.{carried, ielCmd, maskCmd, modeCmd, singleOf, countedOf, blockOf}
+use Rattle.rig.specs.declared.Kind.{Kind}
+use Rattle.rig.specs.declared.Kind.the-variants.{Single, Head, Data, End}
+use Rattle.rig.specs.declared.Pending.{Pending}
+use Rattle.rig.specs.declared.Rig.{Rig}
+use Rattle.rig.specs.declared.Answer.the-variants.{Waiting}
+use Rattle.rig.specs.declared.Reply.the-variants.{Plain, Swallowed}
+use Rattle.rig.specs.declared.Taken.{Taken}
+use Rattle.rig.specs.Words.{highOf, lowOf, kindOf, codeOf, keeps, closes, withPending, withCheck, nothingPending, newBlock, oneMore, checkOf, dropped, plain, settledOf, headOf, freshOf, verdictOf, closedOf, droppedOf, pendingOf, takeOf}
+use Rattle.laws.specs.Replies.{isEnd, closing}
+use Rattle.laws.specs.Rows.{single, Idle, ExactlyOne, SupplyRow, SettingRow, IelWhen, MaskWhen, ModeWhen, serial, parallel, other, Unlisted, ClosedWhen, wrongCheck, unknown, wrongCount20, wrongCount23, wrongCount24, multiplexer, direction, energy, RowLaws}
+use Rattle.laws.proofs.Tests.{by-test, and-left, and-right}
+
+-- the decoder's first choice
+idle-is : (r : Rig) (w : ℕ) → Idle r → takeOf r w ≡ plain (freshOf r (kindOf (highOf w)) (highOf w) (lowOf w))
+unfolding takeOf
+idle-is r w e = ap (λ (b : Bool). pick b (pendingOf r (kindOf (highOf w)) (highOf w) (lowOf w)) (plain (freshOf r (kindOf (highOf w)) (highOf w) (lowOf w)))) e
+
+pending-is : (r : Rig) (w : ℕ) → r .pending .waiting ≡ true → takeOf r w ≡ pendingOf r (kindOf (highOf w)) (highOf w) (lowOf w)
+unfolding takeOf
+pending-is r w e = ap (λ (b : Bool). pick b (pendingOf r (kindOf (highOf w)) (highOf w) (lowOf w)) (plain (freshOf r (kindOf (highOf w)) (highOf w) (lowOf w)))) e
+
+-- a word of a known kind
+idle-kind : (r : Rig) (w : ℕ) {k : Kind} → Idle r → kindOf (highOf w) ≡ k → takeOf r w ≡ plain (freshOf r k (highOf w) (lowOf w))
+idle-kind r w i e = idle-is r w i ∙ ap (λ (k : Kind). plain (freshOf r k (highOf w) (lowOf w))) e
+
+pending-kind : (r : Rig) (w : ℕ) {k : Kind} → r .pending .waiting ≡ true → kindOf (highOf w) ≡ k → takeOf r w ≡ pendingOf r k (highOf w) (lowOf w)
+pending-kind r w i e = pending-is r w i ∙ ap (λ (k : Kind). pendingOf r k (highOf w) (lowOf w)) e
+
+-- a single of a code, with nothing pending, is judged
+kind-single : (code : ℕ) → code < 64 → kindOf code ≡ Single
+unfolding kindOf
+kind-single code h = let e : code / 64 ≡ 0 = omega arith in simp e
+
+judged : (r : Rig) (code low : ℕ) → code < 64 → low < 256 → Idle r → takeOf r (single code low) ≡ plain (settledOf r code (singleOf (r .core) code low))
+unfolding freshOf
+judged r code low h l i =
+    let e : highOf (single code low) ≡ code = omega arith in
+    let f : lowOf (single code low) ≡ low = omega arith in
+    let g : codeOf code ≡ code = omega arith in
+    idle-kind r (single code low) i (ap kindOf e ∙ kind-single code h) ∙ rw (e, f, g)
+
+-- A row: its rule gives the one x that its table allows, and the single is settled by what x tells.
+row : {A : Type 0} (code : ℕ) → code < 64 → (rule : Core → ℕ → A) (tells : Core → A → Verdict) (When : Core → ℕ → A → Type 0)
+    → ((c : Core) (low : ℕ) → When c low (rule c low)) → ((c : Core) (low : ℕ) (x : A) → When c low x → x ≡ rule c low)
+    → ((c : Core) (low : ℕ) → singleOf c code low ≡ tells c (rule c low))
+    → (r : Rig) (low : ℕ) → low < 256 → Idle r
+    → ExactlyOne (When (r .core) low) (λ x. takeOf r (single code low) ≡ plain (settledOf r code (tells (r .core) x)))
+row code h rule tells When is alone cmd r low l i =
+    record {
+      one = rule (r .core) low;
+      is = is (r .core) low;
+      alone = alone (r .core) low;
+      then = judged r code low h l i ∙ ap (λ (v : Verdict). plain (settledOf r code v)) (cmd (r .core) low);
+    }
+
+-- a row of the supply: its table is the supply's, and says exactly when each answer is given
+supply-row : (code : ℕ) → code < 64 → (rule : Supply → ℕ → Change) (When : Supply → ℕ → Change → Type 0)
+    → ((s : Supply) (low : ℕ) (ch : Change) → (rule s low ≡ ch) ↔ When s low ch)
+    → ((c : Core) (low : ℕ) → singleOf c code low ≡ carried c (rule (c .supply) low)) → SupplyRow takeOf code When
+supply-row code h rule When when cmd =
+    row code h (λ c low. rule (c .supply) low) carried (λ c low. When (c .supply) low)
+    (λ c low. when (c .supply) low (rule (c .supply) low) .0 refl) (λ c low x w. sym (when (c .supply) low x .1 w)) cmd
+
+relay08 : SupplyRow takeOf 0x08 RelayWhen
+unfolding singleOf
+relay08 = supply-row 0x08 (omega arith) relayed RelayWhen relayed-when (λ c low. refl)
+
+target28 : SupplyRow takeOf 0x28 TargetWhen
+unfolding singleOf
+target28 = supply-row 0x28 (omega arith) targeted TargetWhen targeted-when (λ c low. refl)
+
+limit29 : SupplyRow takeOf 0x29 LimitWhen
+unfolding singleOf
+limit29 = supply-row 0x29 (omega arith) limited LimitWhen limited-when (λ c low. refl)
+
+stepping2D : SupplyRow takeOf 0x2D StepWhen
+unfolding singleOf
+stepping2D = supply-row 0x2D (omega arith) switched StepWhen switched-when (λ c low. refl)
+
+iel0C : SettingRow takeOf 0x0C IelWhen
+unfolding singleOf
+iel0C = row 0x0C (omega arith) ielCmd (λ c v. v) IelWhen (λ c low. refl) (λ c low x e. e) (λ c low. refl)
+
+mask26 : SettingRow takeOf 0x26 MaskWhen
+unfolding singleOf
+mask26 = row 0x26 (omega arith) maskCmd (λ c v. v) MaskWhen (λ c low. refl) (λ c low x e. e) (λ c low. refl)
+
+mode-here : (c : Core) (low : ℕ) → ModeWhen c low (modeCmd c low)
+unfolding modeCmd
+mode-here c low =
+    by-test (ModeWhen c low) (eqb low 0) (λ e. serial (eqb-true low 0 e)) (λ e.
+    by-test (ModeWhen c low) (eqb low 1) (λ f. parallel (eqb-true low 1 f)) (λ f.
+    other (let a = eqb-false low 0 e in let b = eqb-false low 1 f in omega arith)))
+
+mode-alone : (c : Core) (low : ℕ) (v : Verdict) → ModeWhen c low v → v ≡ modeCmd c low
+unfolding modeCmd
+mode-alone c low v (serial e) = simp e
+mode-alone c low v (parallel e) = simp e
+mode-alone c low v (other h) = let a : low ≡ 0 → ⊥ = λ e. omega arith in let b : low ≡ 1 → ⊥ = λ e. omega arith in simp (ne-eqb low 0 a, ne-eqb low 1 b)
+
+mode2B : SettingRow takeOf 0x2B ModeWhen
+unfolding singleOf
+mode2B = row 0x2B (omega arith) modeCmd (λ c v. v) ModeWhen mode-here mode-alone (λ c low. refl)
+
+unlisted : (c : Core) (code low : ℕ) → Unlisted code → singleOf c code low ≡ Deny UnknownCode
+unfolding singleOf
+unlisted c code low u =
+    simp (ne-eqb _ _ (u .not08), ne-eqb _ _ (u .not0C), ne-eqb _ _ (u .not26), ne-eqb _ _ (u .not28), ne-eqb _ _ (u .not29), ne-eqb _ _ (u .not2B), ne-eqb _ _ (u .not2D))
+
+long : (r : Rig) (w : ℕ) → Idle r → kindOf (highOf w) ≡ Head → 79 < lowOf w → takeOf r w ≡ plain (settledOf r (highOf w) (Deny WrongCount))
+unfolding freshOf headOf
+long r w i e h = idle-kind r w i e ∙ simp (lt-ltb 79 (lowOf w) h)
+
+waits : (r : Rig) (w : ℕ) → Idle r → kindOf (highOf w) ≡ Head → lowOf w ≤ 79
+    → takeOf r w ≡ record { rig = withPending r (newBlock (highOf w) (lowOf w)); reply = Plain Waiting }
+unfolding freshOf headOf
+waits r w i e h = idle-kind r w i e ∙ simp (le-ltb 79 (lowOf w) h)
+
+strayData : (r : Rig) (w : ℕ) → Idle r → kindOf (highOf w) ≡ Data → takeOf r w ≡ plain (settledOf r (highOf w) (Deny StrayWord))
+unfolding freshOf
+strayData r w i e = idle-kind r w i e
+
+strayEnd : (r : Rig) (w : ℕ) → Idle r → kindOf (highOf w) ≡ End → takeOf r w ≡ plain (settledOf r (highOf w) (Deny StrayWord))
+unfolding freshOf
+strayEnd r w i e = idle-kind r w i e
+
+kept : (r : Rig) (w : ℕ) → r .pending .waiting ≡ true → kindOf (highOf w) ≡ Data → keeps (r .pending) (highOf w) ≡ true
+    → takeOf r w ≡ record { rig = withPending r (oneMore (r .pending) (lowOf w)); reply = Plain Waiting }
+unfolding pendingOf
+kept r w p e k = pending-kind r w p e ∙ rw k
+
+swallowedData : (r : Rig) (w : ℕ) → r .pending .waiting ≡ true → kindOf (highOf w) ≡ Data → keeps (r .pending) (highOf w) ≡ false
+    → takeOf r w ≡ record { rig = dropped r; reply = Swallowed }
+unfolding pendingOf droppedOf
+swallowedData r w p e k = pending-kind r w p e ∙ rw k
+
+-- an end word, by whether it closes
+end-closes : (b : Bool) (k : Kind) (c d : Bool) → b ≡ true → k ≡ End → b && (isEnd k && c) ≡ d → c ≡ d
+end-closes b k c d p e h = rw (p, e) at h
+
+swallowedEnd : (r : Rig) (w : ℕ) → r .pending .waiting ≡ true → kindOf (highOf w) ≡ End → closing r w ≡ false
+    → takeOf r w ≡ record { rig = dropped r; reply = Swallowed }
+unfolding pendingOf droppedOf
+swallowedEnd r w p e k = pending-kind r w p e ∙ rw (end-closes (r .pending .waiting) (kindOf (highOf w)) (closes (r .pending) (highOf w)) false p e k)
+
+is-end : (k : Kind) → isEnd k ≡ true → k ≡ End
+is-end Single e = cc
+is-end Head e = cc
+is-end Data e = cc
+is-end End e = refl
+
+closed-is : (r : Rig) (w : ℕ) → closing r w ≡ true → takeOf r w ≡ plain (closedOf r (lowOf w))
+unfolding pendingOf
+closed-is r w k =
+    let p = and-left (r .pending .waiting) (isEnd (kindOf (highOf w)) && closes (r .pending) (highOf w)) k in
+    let q = and-right (r .pending .waiting) (isEnd (kindOf (highOf w)) && closes (r .pending) (highOf w)) k in
+    let e = is-end (kindOf (highOf w)) (and-left (isEnd (kindOf (highOf w))) (closes (r .pending) (highOf w)) q) in
+    pending-kind r w p e ∙ rw (and-right (isEnd (kindOf (highOf w))) (closes (r .pending) (highOf w)) q)
+
+closed-here : (c : Core) (p : Pending) (received : ℕ) → ClosedWhen c p received (verdictOf (judgeOf (checkOf p) received) c p)
+unfolding verdictOf blockOf countedOf
+closed-here c p received =
+    let code = codeOf (p .head) in
+    let Here = ClosedWhen c p received in
+    split (eqb received (checkOf p)) (λ e. let a = eqb-true received (checkOf p) e in simp e (
+    by-test Here (eqb code 0x20) (λ f. let b = eqb-true code 0x20 f in
+    by-test Here (eqb (p .n) 2) (λ g. multiplexer a b (eqb-true (p .n) 2 g)) (λ g. wrongCount20 a b (eqb-false (p .n) 2 g))) (λ f.
+    by-test Here (eqb code 0x23) (λ g. let b = eqb-true code 0x23 g in
+    by-test Here (eqb (p .n) 2) (λ g. direction a b (eqb-true (p .n) 2 g)) (λ g. wrongCount23 a b (eqb-false (p .n) 2 g))) (λ g.
+    by-test Here (eqb code 0x24) (λ h. let b = eqb-true code 0x24 h in
+    by-test Here (eqb (p .n) 2) (λ g. energy a b (eqb-true (p .n) 2 g)) (λ g. wrongCount24 a b (eqb-false (p .n) 2 g))) (λ h.
+    unknown a (eqb-false code 0x20 f) (eqb-false code 0x23 g) (eqb-false code 0x24 h))))))
+    (λ e. simp e (wrongCheck (eqb-false received (checkOf p) e)))
+
+closed-alone : (c : Core) (p : Pending) (received : ℕ) (v : Verdict) → ClosedWhen c p received v → v ≡ verdictOf (judgeOf (checkOf p) received) c p
+unfolding verdictOf blockOf countedOf
+closed-alone c p received v (wrongCheck a) = simp (ne-eqb _ _ a)
+closed-alone c p received v (unknown a x y z) = simp (eq-eqb _ _ a, ne-eqb _ _ x, ne-eqb _ _ y, ne-eqb _ _ z)
+closed-alone c p received v (wrongCount20 a x n) = simp (eq-eqb _ _ a, x, ne-eqb _ _ n)
+closed-alone c p received v (wrongCount23 a x n) = simp (eq-eqb _ _ a, x, ne-eqb _ _ n)
+closed-alone c p received v (wrongCount24 a x n) = simp (eq-eqb _ _ a, x, ne-eqb _ _ n)
+closed-alone c p received v (multiplexer a x n) = simp (eq-eqb _ _ a, x, eq-eqb _ _ n)
+closed-alone c p received v (direction a x n) = simp (eq-eqb _ _ a, x, eq-eqb _ _ n)
+closed-alone c p received v (energy a x n) = simp (eq-eqb _ _ a, x, eq-eqb _ _ n)
+
+pub row-laws : RowLaws takeOf
+unfolding closedOf
+row-laws =
+    record {
+      relay08 = relay08;
+      iel0C = iel0C;
+      mask26 = mask26;
+      target28 = target28;
+      limit29 = limit29;
+      mode2B = mode2B;
+      stepping2D = stepping2D;
+      unknown = λ r code low h l i u. judged r code low h l i ∙ ap (λ (v : Verdict). plain (settledOf r code v)) (unlisted (r .core) code low u);
+      long = long;
+      waits = waits;
+      strayData = strayData;
+      strayEnd = strayEnd;
+      kept = kept;
+      closed = λ r w k. record {
+        one = verdictOf (judgeOf (checkOf (r .pending)) (lowOf w)) (r .core) (r .pending);
+        is = closed-here (r .core) (r .pending) (lowOf w);
+        alone = closed-alone (r .core) (r .pending) (lowOf w);
+        then = closed-is r w k;
+      };
+      swallowedData = swallowedData;
+      swallowedEnd = swallowedEnd;
+    }
