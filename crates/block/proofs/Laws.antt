@@ -1,0 +1,174 @@
+-- What the proofs of `locate` and `part_of` stand on: the code's groups say what 01's sentences say, and a part that is located
+-- is not empty and lies in its block. Assumes nothing.
+use mathlib.Core.Path.{_≡_, refl, ap, subst}
+use mathlib.Core.Bool.{Bool, true, false, _||_}
+use mathlib.Core.List.{List, [], _∷_}
+use Prim.Native.Nat.{ℕ, zero, suc, _+_, _≤_, _<_}
+use native.Mathlib.Omega.{arith}
+use borrow.Author.Tests.{eqb-true, eqb-false}
+use lib.Dec.{T, eqb, ltb, leb, leb→le}
+use lib.ListN.{length, getD}
+use Rattle.base.proofs.Cases.{split}
+use Rattle.base.proofs.Table.{both, both-left, both-right}
+use Rattle.base.specs.Pick.{pick}
+use Rattle.block.specs.declared.Refusal.{Refusal}
+use Rattle.block.specs.declared.Refusal.the-variants.{Beyond, Hidden}
+use Rattle.block.specs.declared.Layout.{Layout}
+use Rattle.block.specs.declared.Layout.the-variants.{Nm, Bm1, Bad}
+use Rattle.block.specs.declared.Part.{Part}
+use Rattle.block.specs.declared.Part.the-variants.{Marker, Index, Descriptor1, Calibration, MSigns, Sgl0, DirectEvents, HSpct, ISpct, Sgl1, Sgl2, Sgl3, IPad, I3dd, Mtrx, Descriptor2, EPad, E3dd, M}
+use Rattle.block.specs.declared.Row.{Row}
+use Rattle.block.specs.declared.Located.the-variants.{At, Refused}
+use Rattle.block.specs.Layout.{nm, bm1, inner, bit, dumped, layoutOf}
+use Rattle.block.specs.Parts.{rowOf, parts, rankOf, hidden, found, inLayout, locateOf}
+use Rattle.block.specs.Steps.{hides}
+
+-- the table law: a part's group is hidden exactly if one of 01's sentences hides the part
+whole : (x : Bool) → x ≡ x || false || false
+whole true = refl
+whole false = refl
+
+ions : (x y : Bool) → x || y ≡ x || y || false
+ions true y = refl
+ions false true = refl
+ions false false = refl
+
+electrons : (x y : Bool) → x || y ≡ x || false || y
+electrons true y = refl
+electrons false y = refl
+
+module _ (d1 d2 : ℕ) where
+  ion : hides (rowOf Mtrx .4) d1 d2 ≡ hidden Mtrx d1 d2
+  ion = ions (bit d1 2) (bit d1 0 || bit d1 3)
+
+  electron : hides (rowOf M .4) d1 d2 ≡ hidden M d1 d2
+  electron = electrons (bit d1 2) (bit d1 1 || bit d2 7)
+
+  pub hides-01 : (p : Part) → hides (rowOf p .4) d1 d2 ≡ hidden p d1 d2
+  hides-01 Marker = refl
+  hides-01 Index = refl
+  hides-01 Descriptor1 = refl
+  hides-01 Calibration = ion
+  hides-01 MSigns = ion
+  hides-01 Sgl0 = ion
+  hides-01 DirectEvents = ion
+  hides-01 HSpct = ion
+  hides-01 ISpct = ion
+  hides-01 Sgl1 = ion
+  hides-01 Sgl2 = ion
+  hides-01 Sgl3 = ion
+  hides-01 IPad = ion
+  hides-01 I3dd = ion
+  hides-01 Mtrx = ion
+  hides-01 Descriptor2 = whole (bit d1 2)
+  hides-01 EPad = electron
+  hides-01 E3dd = electron
+  hides-01 M = electron
+
+-- so what the code answers of a row is the definition's answer of its part
+module _ (p : Part) (r : Row) (d1 d2 : ℕ) (e : r ≡ rowOf p) where
+  pub nm-found : found (r .0) (r .1) (hides (r .4) d1 d2) ≡ inLayout (Nm d1 d2) p
+  nm-found = rw e (ap (found (rowOf p .0) (rowOf p .1)) (hides-01 d1 d2 p))
+
+  pub bm1-found : found (r .2) (r .3) (hides (r .4) d1 d2) ≡ inLayout (Bm1 d1 d2) p
+  bm1-found = rw e (ap (found (rowOf p .2) (rowOf p .3)) (hides-01 d1 d2 p))
+
+-- a test that passes at each listed part passes at every part: none is left out of the list
+abbrev pub allOf : (Part → Bool) → List Part → Bool
+allOf f [] = true
+allOf f (q ∷ qs) = both (f q) (allOf f qs)
+
+all-at : (f : Part → Bool) (qs : List Part) → T (allOf f qs) → T (f Marker) → (k : ℕ) → T (f (getD qs k Marker))
+all-at f [] t m k = m
+all-at f (q ∷ qs) t m zero = both-left (f q) (allOf f qs) t
+all-at f (q ∷ qs) t m (suc k) = all-at f qs (both-right (f q) (allOf f qs) t) m k
+
+pub ranked : (p : Part) → getD parts (rankOf p) Marker ≡ p
+ranked Marker = refl
+ranked Index = refl
+ranked Descriptor1 = refl
+ranked Calibration = refl
+ranked MSigns = refl
+ranked Sgl0 = refl
+ranked DirectEvents = refl
+ranked HSpct = refl
+ranked ISpct = refl
+ranked Sgl1 = refl
+ranked Sgl2 = refl
+ranked Sgl3 = refl
+ranked IPad = refl
+ranked I3dd = refl
+ranked Mtrx = refl
+ranked Descriptor2 = refl
+ranked EPad = refl
+ranked E3dd = refl
+ranked M = refl
+
+pub every-part : (f : Part → Bool) → T (allOf f parts) → (p : Part) → T (f p)
+every-part f t p = subst (λ (q : Part). T (f q)) (ranked p) (all-at f parts t (both-left (f Marker) _ t) (rankOf p))
+
+-- each part of either table ends in its block
+abbrev fits : Part → Bool
+fits p = both (leb (rowOf p .0 + rowOf p .1) 512) (leb (rowOf p .2 + rowOf p .3) 2304)
+
+all-fit : (p : Part) → (rowOf p .0 + rowOf p .1 ≤ 512) × (rowOf p .2 + rowOf p .3 ≤ 2304)
+all-fit p =
+    let t = every-part fits tt p in
+    let x = leb (rowOf p .0 + rowOf p .1) 512 in
+    let y = leb (rowOf p .2 + rowOf p .3) 2304 in
+    (leb→le _ _ (both-left x y t), leb→le _ _ (both-right x y t))
+
+-- the length that a layout says
+abbrev long : Layout → ℕ → Type 0
+long (Bad r) n = Unit {0}
+long (Nm d1 d2) n = n ≡ 512
+long (Bm1 d1 d2) n = n ≡ 2304
+
+pub layout-long : (b : List ℕ) → long (layoutOf b) (length b)
+unfolding layoutOf
+layout-long b =
+    split (ltb (length b) 3)
+    (λ s. simp s tt)
+    (λ s. split (nm b)
+    (λ m. split (eqb (length b) 512) (λ l. simp (s, m, l) (eqb-true _ _ l)) (λ l. simp (s, m, l) tt))
+    (λ m. split (bm1 b)
+    (λ n. split (eqb (length b) 2304)
+    (λ l. split (dumped b || inner b) (λ i. simp (s, m, n, l, i) (eqb-true _ _ l)) (λ i. simp (s, m, n, l, i) tt))
+    (λ l. simp (s, m, n, l) tt))
+    (λ n. simp (s, m, n) tt)))
+
+pub nm-length : (b : List ℕ) (d1 d2 : ℕ) → layoutOf b ≡ Nm d1 d2 → length b ≡ 512
+nm-length b d1 d2 e = rw e at (layout-long b)
+
+pub bm1-length : (b : List ℕ) (d1 d2 : ℕ) → layoutOf b ≡ Bm1 d1 d2 → length b ≡ 2304
+bm1-length b d1 d2 e = rw e at (layout-long b)
+
+-- what was found is the row's own place, and not empty
+refused-at : (r : Refusal) (a n : ℕ) → Refused r ≡ At a n → ⊥
+refused-at r a n h = let z : _≡_ {A = ℕ} 0 1 = cc in omega arith
+
+found-is : (s h : Bool) (x y a n : ℕ) → pick s (Refused Beyond) (pick h (Refused Hidden) (At x y)) ≡ At a n → (s ≡ false) × (x ≡ a) × (y ≡ n)
+found-is true h x y a n k = absurd (refused-at Beyond a n k)
+found-is false true x y a n k = absurd (refused-at Hidden a n k)
+found-is false false x y a n k = (refl, cc, cc)
+
+some : (n : ℕ) → eqb n 0 ≡ false → 0 < n
+some zero e = absurd (eqb-false 0 0 e refl)
+some (suc n) e = omega arith
+
+within : (l : Layout) (p : Part) (k a n : ℕ) → long l k → inLayout l p ≡ At a n → (0 < n) × (a + n ≤ k)
+within (Bad r) p k a n h e = absurd (refused-at r a n e)
+within (Nm d1 d2) p k a n h e =
+    let f = found-is (eqb (rowOf p .1) 0) (hidden p d1 d2) (rowOf p .0) (rowOf p .1) a n e in
+    let s = some (rowOf p .1) (f .0) in
+    let w = all-fit p .0 in
+    (omega (arith, f .2), omega (arith, f .1, f .2))
+within (Bm1 d1 d2) p k a n h e =
+    let f = found-is (eqb (rowOf p .3) 0) (hidden p d1 d2) (rowOf p .2) (rowOf p .3) a n e in
+    let s = some (rowOf p .3) (f .0) in
+    let w = all-fit p .1 in
+    (omega (arith, f .2), omega (arith, f .1, f .2))
+
+pub located-in : (b : List ℕ) (p : Part) (a n : ℕ) → locateOf b p ≡ At a n → (0 < n) × (a + n ≤ length b)
+unfolding locateOf
+located-in b p a n e = within (layoutOf b) p (length b) a n (layout-long b) e

@@ -1,0 +1,2 @@
+-- Laws of the data blocks.
+pub mod Laws
