@@ -7,7 +7,7 @@ use Prim.Native.Nat.{ℕ, zero, suc, _+_, _≤_, _<_}
 use native.Mathlib.Omega.{arith}
 use borrow.Author.Tests.{eqb-true, eqb-false}
 use lib.Dec.{T, eqb, ltb, leb, leb→le}
-use lib.ListN.{length, getD}
+use lib.ListN.{length, getD, length-take, length-drop}
 use Rattle.base.proofs.Cases.{split}
 use Rattle.base.proofs.Table.{both, both-left, both-right}
 use Rattle.base.specs.Pick.{pick}
@@ -20,7 +20,7 @@ use Rattle.block.specs.declared.Part.the-variants.{Marker, Index, Descri
 use Rattle.block.specs.declared.Row.{Row}
 use Rattle.block.specs.declared.Located.the-variants.{At, Refused}
 use Rattle.block.specs.Layout.{nm, bm1, inner, bit, dumped, layoutOf}
-use Rattle.block.specs.Parts.{rowOf, parts, rankOf, hidden, found, inLayout, locateOf}
+use Rattle.block.specs.Parts.{rowOf, parts, rankOf, hidden, found, inLayout, locateOf, partOf}
 use Rattle.block.specs.Steps.{hides}
 
 -- the table law: a part's group is hidden exactly if one of 01's sentences hides the part
@@ -172,3 +172,14 @@ within (Bm1 d1 d2) p k a n h e =
 pub located-in : (b : List ℕ) (p : Part) (a n : ℕ) → locateOf b p ≡ At a n → (0 < n) × (a + n ≤ length b)
 unfolding locateOf
 located-in b p a n e = within (layoutOf b) p (length b) a n (layout-long b) e
+
+-- so what `part_of` hands back is as long as `locate` says, and it is empty exactly where `locate` refuses
+pub part-length : (b : List ℕ) (p : Part) (a n : ℕ) → locateOf b p ≡ At a n → (0 < n) × (length (partOf b p) ≡ n)
+unfolding partOf
+part-length b p a n e =
+    let i = located-in b p a n e in
+    (i .0, rw e (simp (length-take, length-drop) (omega (arith, i .1))))
+
+pub part-none : (b : List ℕ) (p : Part) (r : Refusal) → locateOf b p ≡ Refused r → partOf b p ≡ []
+unfolding partOf
+part-none b p r e = rw e

@@ -1,5 +1,7 @@
--- What the promises of this crate say: Refusals, Layout, Parts. Steps is for its private helpers alone.
+-- What the promises of this crate say: Refusals, Layout, Parts. Cover and Order state laws; Steps is for private helpers alone.
 pub mod Refusals
 pub mod Layout
 pub mod Parts
+pub mod Cover
+pub mod Order
 pub mod Steps

@@ -208,10 +208,12 @@ fn is_hidden(group: Group, d1: u8, d2: u8) -> bool
 fn found_at(at: usize, n: usize, group: Group, d1: u8, d2: u8) -> Located
     ensures { λ r. ⌜ r ≡ found at n (hides group d1 d2) ⌝ }
 {
-    if n == 0 {
+    let absent = n == 0;
+    let hidden = is_hidden(group, d1, d2);
+    if absent {
         return Located::Refused(Refusal::Beyond);
     }
-    if is_hidden(group, d1, d2) {
+    if hidden {
         return Located::Refused(Refusal::Hidden);
     }
     Located::At(at, n)

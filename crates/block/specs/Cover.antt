@@ -1,0 +1,40 @@
+-- Which bytes of a block are held by what (G 2.1): the parts, BM1's two inner markers, and its two spare bytes.
+-- Assumes nothing.
+use mathlib.Core.Bool.{_&&_}
+use mathlib.Core.List.{List, [], _∷_, _++_}
+use Prim.Native.Nat.{ℕ, _+_}
+use lib.Dec.{leb, ltb}
+use Rattle.base.specs.Pick.{pick}
+use Rattle.block.specs.declared.Part.{Part}
+use Rattle.block.specs.Parts.{rowOf, parts}
+
+-- a stretch of bytes: position and length
+abbrev pub Stretch : Type 0
+Stretch = ℕ × ℕ
+
+-- G: 212h 2. sync marker, 475h 3. sync marker; 009h and 155h spare
+abbrev pub innerMarkers : List Stretch
+innerMarkers = (0x212, 3) ∷ (0x475, 3) ∷ []
+
+abbrev pub spares : List Stretch
+spares = (0x009, 1) ∷ (0x155, 1) ∷ []
+
+abbrev pub nmOf : List Part → List Stretch
+nmOf [] = []
+nmOf (p ∷ ps) = (rowOf p .0, rowOf p .1) ∷ nmOf ps
+
+abbrev pub bm1Of : List Part → List Stretch
+bm1Of [] = []
+bm1Of (p ∷ ps) = (rowOf p .2, rowOf p .3) ∷ bm1Of ps
+
+-- all that an NM block holds, and all that a BM1 block holds
+abbrev pub nmHeld : List Stretch
+nmHeld = nmOf parts
+
+abbrev pub bm1Held : List Stretch
+bm1Held = bm1Of parts ++ (innerMarkers ++ spares)
+
+-- in how many of the stretches byte k lies
+abbrev pub holders : ℕ → List Stretch → ℕ
+holders k [] = 0
+holders k (s ∷ ss) = pick (leb (s .0) k && ltb k (s .0 + s .1)) 1 0 + holders k ss
