@@ -144,10 +144,10 @@ pub bm1-length : (b : List ℕ) (d1 d2 : ℕ) → layoutOf b ≡ Bm1 d1 d2 → l
 bm1-length b d1 d2 e = rw e at (layout-long b)
 
 -- what was found is the row's own place, and not empty
-refused-at : (r : Refusal) (a n : ℕ) → Refused r ≡ At a n → ⊥
+pub refused-at : (r : Refusal) (a n : ℕ) → Refused r ≡ At a n → ⊥
 refused-at r a n h = let z : _≡_ {A = ℕ} 0 1 = cc in omega arith
 
-found-is : (s h : Bool) (x y a n : ℕ) → pick s (Refused Beyond) (pick h (Refused Hidden) (At x y)) ≡ At a n → (s ≡ false) × (x ≡ a) × (y ≡ n)
+pub found-is : (s h : Bool) (x y a n : ℕ) → pick s (Refused Beyond) (pick h (Refused Hidden) (At x y)) ≡ At a n → (s ≡ false) × (x ≡ a) × (y ≡ n)
 found-is true h x y a n k = absurd (refused-at Beyond a n k)
 found-is false true x y a n k = absurd (refused-at Hidden a n k)
 found-is false false x y a n k = (refl, cc, cc)

@@ -1,0 +1,2 @@
+-- Laws of the events and items.
+pub mod Laws

@@ -1,0 +1,3 @@
+-- What the promises of this crate say.
+pub mod Event
+pub mod Ifft
