@@ -10,9 +10,9 @@ use Rattle.base.proofs.Cases.{split}
 use Rattle.block.specs.declared.Part.{Part}
 use Rattle.block.specs.Layout.{nm, bm1, inner, first, dumped, second, layoutOf}
 use Rattle.block.specs.Parts.{rowOf, hidden, locateOf}
-use Rattle.block.specs.Order.{numberIn, firstOf, refusals}
+use Rattle.block.specs.Order.{numberIn, firstOf, partRefusals}
 
-pub order : (b : List ℕ) (p : Part) → numberIn (locateOf b p) ≡ firstOf (refusals b p)
+pub order : (b : List ℕ) (p : Part) → numberIn (locateOf b p) ≡ firstOf (partRefusals b p)
 unfolding locateOf layoutOf
 order b p =
     split (ltb (length b) 3) (λ s. simp s)

@@ -1,7 +1,7 @@
 -- The refusals of a part in 01's numbers and order: 20 (under 3), 19, 20, 21, 22, 23.
 -- Assumes nothing.
 use mathlib.Core.Bool.{Bool, not, _&&_, _||_}
-use mathlib.Core.List.{List, [], _∷_}
+use mathlib.Core.List.{List, [], _∷_, _++_}
 use Prim.Native.Nat.{ℕ}
 use lib.Dec.{eqb, ltb}
 use lib.ListN.{length}
@@ -23,12 +23,18 @@ abbrev pub firstOf : List (Bool × ℕ) → ℕ
 firstOf [] = 0
 firstOf (t ∷ ts) = pick (t .0) (t .1) (firstOf ts)
 
-abbrev pub refusals : List ℕ → Part → List (Bool × ℕ)
-refusals b p =
+-- what every question asks of the block first, and what is asked of a part then
+abbrev pub blockRefusals : List ℕ → List (Bool × ℕ)
+blockRefusals b =
     (ltb (length b) 3, 20)
     ∷ (not (nm b || bm1 b), 19)
     ∷ (not (eqb (length b) (pick (nm b) 512 2304)), 20)
     ∷ (not (nm b) && not (dumped b || inner b), 21)
-    ∷ (eqb (pick (nm b) (rowOf p .1) (rowOf p .3)) 0, 22)
-    ∷ (hidden p (first b) (second b (pick (nm b) 0x14F 0x154)), 23)
     ∷ []
+
+abbrev pub hiddenIn : List ℕ → Part → Bool
+hiddenIn b p = hidden p (first b) (second b (pick (nm b) 0x14F 0x154))
+
+abbrev pub partRefusals : List ℕ → Part → List (Bool × ℕ)
+partRefusals b p =
+    blockRefusals b ++ (eqb (pick (nm b) (rowOf p .1) (rowOf p .3)) 0, 22) ∷ (hiddenIn b p, 23) ∷ []
