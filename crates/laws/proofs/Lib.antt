@@ -4,3 +4,5 @@ pub mod Commands
 pub mod Words
 pub mod Replies
 pub mod Rows
+pub mod Bounds
+pub mod Runs

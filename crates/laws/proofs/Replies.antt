@@ -1,7 +1,7 @@
 -- What a word may move, by its reply (specs/Replies): by the cases of a word, and in each by the verdict.
 -- Assumes nothing.
-use Prim.Native.Nat.{ℕ}
-use mathlib.Core.Path.{_≡_, refl, ap, _∙_}
+use Prim.Native.Nat.{ℕ, _≤_}
+use mathlib.Core.Path.{_≡_, refl, ap, sym, _∙_}
 use mathlib.Core.Bool.{Bool, true, false}
 use native.Mathlib.Omega.{arith}
 use Rattle.base.specs.Pick.{pick}
@@ -25,7 +25,7 @@ use Rattle.rig.specs.declared.Taken.{Taken}
 use Rattle.rig.specs.Words.{highOf, lowOf, kindOf, checkOf, settledOf, refusedOf, freshOf, plain, afterDrop, dropped, droppedOf, pendingOf, takeOf}
 use Rattle.rig.specs.Replies.{refusalsOf}
 use Rattle.laws.specs.Replies.{After, Apart, judgedAfresh, afterwards, Never, closing, ReplyLaws}
-use Rattle.laws.proofs.Words.{Fresh, judged, begun, Case, idle, kept, closed, swallowed, again, case}
+use Rattle.laws.proofs.Words.{takes, Fresh, judged, begun, Case, idle, kept, closed, swallowed, again, case}
 
 -- a rig in which nothing but core, faults, pending block and last check may differ
 alike : (r : Rig) (c : Core) (f : Faults) (p : Pending) (k : ℕ)
@@ -60,30 +60,32 @@ again-is r End high low e = cc
 
 afresh : (r : Rig) (w : ℕ) → r .pending .waiting ≡ true → judgedAfresh (kindOf (highOf w)) ≡ true
     → takeOf r w ≡ record { rig = takeOf (dropped r) w .rig; reply = afterwards (takeOf (dropped r) w .reply) }
-unfolding takeOf refusedOf
-afresh r w e f = ap (λ (b : Bool). pick b (pendingOf r (kindOf (highOf w)) (highOf w) (lowOf w)) (plain (freshOf r (kindOf (highOf w)) (highOf w) (lowOf w)))) e ∙ again-is r (kindOf (highOf w)) (highOf w) (lowOf w) f
+unfolding refusedOf
+afresh r w e f =
+    let k = kindOf (highOf w) in
+    takes r w e refl ∙ again-is r k (highOf w) (lowOf w) f ∙ ap (λ (t : Taken). record { rig = t .rig; reply = afterwards (t .reply) }) (sym (takes (dropped r) w refl refl))
 
--- no refusal has the number 07h
-not07 : (why : Refusal) → numberOf why ≡ 0x07 → ⊥
-not07 RelayOff e = omega arith
-not07 Disabled e = omega arith
-not07 OverLimit e = omega arith
-not07 StrayWord e = omega arith
-not07 RelayBits e = omega arith
-not07 WrongCheck e = omega arith
-not07 Unsettled e = omega arith
-not07 OutOfRange e = omega arith
-not07 WrongCount e = omega arith
-not07 UnknownCode e = omega arith
+-- the number of a refusal: four bits, and never 07h
+pub number-is : (why : Refusal) → (numberOf why ≤ 15) × (numberOf why ≡ 0x07 → ⊥)
+number-is RelayOff = omega arith
+number-is Disabled = omega arith
+number-is OverLimit = omega arith
+number-is StrayWord = omega arith
+number-is RelayBits = omega arith
+number-is WrongCheck = omega arith
+number-is Unsettled = omega arith
+number-is OutOfRange = omega arith
+number-is WrongCount = omega arith
+number-is UnknownCode = omega arith
 
 never : (y : Reply) → Never 0x07 (refusalsOf y)
 never (Plain Accepted) = tt
 never (Plain Waiting) = tt
-never (Plain (Refused why)) = (not07 why, tt)
+never (Plain (Refused why)) = (number-is why .1, tt)
 never Swallowed = (λ e. omega arith, tt)
 never (Dropped Accepted) = (λ e. omega arith, tt)
 never (Dropped Waiting) = (λ e. omega arith, tt)
-never (Dropped (Refused why)) = (λ e. omega arith, (not07 why, tt))
+never (Dropped (Refused why)) = (λ e. omega arith, (number-is why .1, tt))
 
 pub reply-laws : ReplyLaws takeOf
 reply-laws =

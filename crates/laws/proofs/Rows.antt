@@ -31,22 +31,7 @@ use Rattle.rig.specs.Words.{highOf, lowOf, kindOf, codeOf, keeps, closes, withP
 use Rattle.laws.specs.Replies.{isEnd, closing}
 use Rattle.laws.specs.Rows.{single, Idle, ExactlyOne, SupplyRow, SettingRow, IelWhen, MaskWhen, ModeWhen, serial, parallel, other, Unlisted, ClosedWhen, wrongCheck, unknown, wrongCount20, wrongCount23, wrongCount24, multiplexer, direction, energy, RowLaws}
 use Rattle.laws.proofs.Tests.{by-test, and-left, and-right}
-
--- the decoder's first choice
-idle-is : (r : Rig) (w : ℕ) → Idle r → takeOf r w ≡ plain (freshOf r (kindOf (highOf w)) (highOf w) (lowOf w))
-unfolding takeOf
-idle-is r w e = ap (λ (b : Bool). pick b (pendingOf r (kindOf (highOf w)) (highOf w) (lowOf w)) (plain (freshOf r (kindOf (highOf w)) (highOf w) (lowOf w)))) e
-
-pending-is : (r : Rig) (w : ℕ) → r .pending .waiting ≡ true → takeOf r w ≡ pendingOf r (kindOf (highOf w)) (highOf w) (lowOf w)
-unfolding takeOf
-pending-is r w e = ap (λ (b : Bool). pick b (pendingOf r (kindOf (highOf w)) (highOf w) (lowOf w)) (plain (freshOf r (kindOf (highOf w)) (highOf w) (lowOf w)))) e
-
--- a word of a known kind
-idle-kind : (r : Rig) (w : ℕ) {k : Kind} → Idle r → kindOf (highOf w) ≡ k → takeOf r w ≡ plain (freshOf r k (highOf w) (lowOf w))
-idle-kind r w i e = idle-is r w i ∙ ap (λ (k : Kind). plain (freshOf r k (highOf w) (lowOf w))) e
-
-pending-kind : (r : Rig) (w : ℕ) {k : Kind} → r .pending .waiting ≡ true → kindOf (highOf w) ≡ k → takeOf r w ≡ pendingOf r k (highOf w) (lowOf w)
-pending-kind r w i e = pending-is r w i ∙ ap (λ (k : Kind). pendingOf r k (highOf w) (lowOf w)) e
+use Rattle.laws.proofs.Words.{takes}
 
 -- a single of a code, with nothing pending, is judged
 kind-single : (code : ℕ) → code < 64 → kindOf code ≡ Single
@@ -59,7 +44,7 @@ judged r code low h l i =
     let e : highOf (single code low) ≡ code = omega arith in
     let f : lowOf (single code low) ≡ low = omega arith in
     let g : codeOf code ≡ code = omega arith in
-    idle-kind r (single code low) i (ap kindOf e ∙ kind-single code h) ∙ rw (e, f, g)
+    takes r (single code low) i (ap kindOf e ∙ kind-single code h) ∙ rw (e, f, g)
 
 -- A row: its rule gives the one x that its table allows, and the single is settled by what x tells.
 row : {A : Type 0} (code : ℕ) → code < 64 → (rule : Core → ℕ → A) (tells : Core → A → Verdict) (When : Core → ℕ → A → Type 0)
@@ -131,30 +116,30 @@ unlisted c code low u =
 
 long : (r : Rig) (w : ℕ) → Idle r → kindOf (highOf w) ≡ Head → 79 < lowOf w → takeOf r w ≡ plain (settledOf r (highOf w) (Deny WrongCount))
 unfolding freshOf headOf
-long r w i e h = idle-kind r w i e ∙ simp (lt-ltb 79 (lowOf w) h)
+long r w i e h = takes r w i e ∙ simp (lt-ltb 79 (lowOf w) h)
 
 waits : (r : Rig) (w : ℕ) → Idle r → kindOf (highOf w) ≡ Head → lowOf w ≤ 79
     → takeOf r w ≡ record { rig = withPending r (newBlock (highOf w) (lowOf w)); reply = Plain Waiting }
 unfolding freshOf headOf
-waits r w i e h = idle-kind r w i e ∙ simp (le-ltb 79 (lowOf w) h)
+waits r w i e h = takes r w i e ∙ simp (le-ltb 79 (lowOf w) h)
 
 strayData : (r : Rig) (w : ℕ) → Idle r → kindOf (highOf w) ≡ Data → takeOf r w ≡ plain (settledOf r (highOf w) (Deny StrayWord))
 unfolding freshOf
-strayData r w i e = idle-kind r w i e
+strayData r w i e = takes r w i e
 
 strayEnd : (r : Rig) (w : ℕ) → Idle r → kindOf (highOf w) ≡ End → takeOf r w ≡ plain (settledOf r (highOf w) (Deny StrayWord))
 unfolding freshOf
-strayEnd r w i e = idle-kind r w i e
+strayEnd r w i e = takes r w i e
 
 kept : (r : Rig) (w : ℕ) → r .pending .waiting ≡ true → kindOf (highOf w) ≡ Data → keeps (r .pending) (highOf w) ≡ true
     → takeOf r w ≡ record { rig = withPending r (oneMore (r .pending) (lowOf w)); reply = Plain Waiting }
 unfolding pendingOf
-kept r w p e k = pending-kind r w p e ∙ rw k
+kept r w p e k = takes r w p e ∙ rw k
 
 swallowedData : (r : Rig) (w : ℕ) → r .pending .waiting ≡ true → kindOf (highOf w) ≡ Data → keeps (r .pending) (highOf w) ≡ false
     → takeOf r w ≡ record { rig = dropped r; reply = Swallowed }
 unfolding pendingOf droppedOf
-swallowedData r w p e k = pending-kind r w p e ∙ rw k
+swallowedData r w p e k = takes r w p e ∙ rw k
 
 -- an end word, by whether it closes
 end-closes : (b : Bool) (k : Kind) (c d : Bool) → b ≡ true → k ≡ End → b && (isEnd k && c) ≡ d → c ≡ d
@@ -163,7 +148,7 @@ end-closes b k c d p e h = rw (p, e) at h
 swallowedEnd : (r : Rig) (w : ℕ) → r .pending .waiting ≡ true → kindOf (highOf w) ≡ End → closing r w ≡ false
     → takeOf r w ≡ record { rig = dropped r; reply = Swallowed }
 unfolding pendingOf droppedOf
-swallowedEnd r w p e k = pending-kind r w p e ∙ rw (end-closes (r .pending .waiting) (kindOf (highOf w)) (closes (r .pending) (highOf w)) false p e k)
+swallowedEnd r w p e k = takes r w p e ∙ rw (end-closes (r .pending .waiting) (kindOf (highOf w)) (closes (r .pending) (highOf w)) false p e k)
 
 is-end : (k : Kind) → isEnd k ≡ true → k ≡ End
 is-end Single e = cc
@@ -177,7 +162,7 @@ closed-is r w k =
     let p = and-left (r .pending .waiting) (isEnd (kindOf (highOf w)) && closes (r .pending) (highOf w)) k in
     let q = and-right (r .pending .waiting) (isEnd (kindOf (highOf w)) && closes (r .pending) (highOf w)) k in
     let e = is-end (kindOf (highOf w)) (and-left (isEnd (kindOf (highOf w))) (closes (r .pending) (highOf w)) q) in
-    pending-kind r w p e ∙ rw (and-right (isEnd (kindOf (highOf w))) (closes (r .pending) (highOf w)) q)
+    takes r w p e ∙ rw (and-right (isEnd (kindOf (highOf w))) (closes (r .pending) (highOf w)) q)
 
 closed-here : (c : Core) (p : Pending) (received : ℕ) → ClosedWhen c p received (verdictOf (judgeOf (checkOf p) received) c p)
 unfolding verdictOf blockOf countedOf

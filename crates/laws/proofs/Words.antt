@@ -24,6 +24,12 @@ use Rattle.laws.specs.Replies.{isEnd, closing}
 use Rattle.laws.proofs.Tests.{by-test, and-right}
 use Rattle.laws.proofs.Commands.{CoreFits, Keeps, single-keeps, verdict-keeps}
 
+-- the decoder's first choice, for a word of a known kind
+pub takes : (r : Rig) (w : ℕ) {b : Bool} {k : Kind} → r .pending .waiting ≡ b → kindOf (highOf w) ≡ k
+    → takeOf r w ≡ pick b (pendingOf r k (highOf w) (lowOf w)) (plain (freshOf r k (highOf w) (lowOf w)))
+unfolding takeOf
+takes r w e f = cc
+
 -- a word judged with nothing pending: a verdict, or a new block
 pub data Fresh (r : Rig) (high low : ℕ) : Judgement → Type 0 where
   judged : (v : Verdict) → (CoreFits (r .core) → Keeps v) → Fresh r high low (settledOf r high v)

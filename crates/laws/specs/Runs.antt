@@ -6,6 +6,7 @@ use mathlib.Core.List.{List, [], _∷_}
 use Prim.Native.Nat.{ℕ, suc, _+_, _%_, _<_, _≤_}
 use lib.ListN.{length}
 use Rattle.base.specs.Pick.{pick}
+use Rattle.crc.specs.Laws.{Bytes}
 use Rattle.frame.specs.Items.{heldAt}
 use Rattle.frame.specs.Read.{remOf}
 use Rattle.judge.specs.Refusals.{numberOf}
@@ -21,7 +22,7 @@ use Rattle.rig.specs.declared.Answer.the-variants.{Accepted, Waiting, Refused}
 use Rattle.rig.specs.declared.Reply.{Reply}
 use Rattle.rig.specs.declared.Reply.the-variants.{Plain, Swallowed, Dropped}
 use Rattle.rig.specs.declared.Taken.{Taken}
-use Rattle.rig.specs.Words.{highOf, checkOf, takeOf}
+use Rattle.rig.specs.Words.{highOf, nothingPending, checkOf, takeOf}
 use Rattle.rig.specs.Replies.{refusalsOf}
 use Rattle.rig.specs.Power.{startRig, spunOf, cutOf, setOf}
 use Rattle.rig.specs.Frames.{heldOf, sent}
@@ -152,6 +153,9 @@ pub record Bounds (r : Rig) : Type 0 where
   pub got : r .pending .got ≤ r .pending .n
   pub head : r .pending .head < 0x100
   pub room : length (r .pending .bytes) ≡ 79
+  pub bytes : Bytes (r .pending .bytes)
+  -- nothing pending is one value
+  pub idle : r .pending .waiting ≡ false → r .pending ≡ nothingPending
   -- the panel, the next frame, the counter
   pub bias : r .panel .bias < 0x100
   pub ground : r .panel .ground < 0x100

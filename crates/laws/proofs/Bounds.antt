@@ -1,0 +1,125 @@
+-- What a word keeps: the bounds of the core and of the pending block (by the cases of a word), and the ledger's account of the faults (by the reply).
+-- Assumes nothing.
+use Prim.Native.Nat.{ℕ, zero, suc, _+_, _%_, _<_, _≤_}
+use mathlib.Core.Path.{_≡_, refl, ap, sym, _∙_}
+use mathlib.Core.Bool.{Bool, true, false, true≢false}
+use mathlib.Core.List.{List, [], _∷_}
+use native.Mathlib.Nat.{add-zero}
+use native.Mathlib.Omega.{arith}
+use lib.ListN.{length, take, set, replicate, length-set}
+use Rattle.base.specs.Pick.{pick}
+use Rattle.crc.specs.Crc.{crcOf}
+use Rattle.crc.specs.Laws.{Bytes}
+use Rattle.crc.proofs.Laws.{laws}
+use Rattle.judge.specs.declared.Verdict.the-variants.{Apply, Deny}
+use Rattle.judge.specs.Refusals.{numberOf}
+use Rattle.rig.specs.declared.Faults.{Faults}
+use Rattle.rig.specs.declared.Pending.{Pending}
+use Rattle.rig.specs.declared.Rig.{Rig}
+use Rattle.rig.specs.declared.Answer.the-variants.{Accepted, Waiting, Refused}
+use Rattle.rig.specs.declared.Reply.{Reply}
+use Rattle.rig.specs.declared.Reply.the-variants.{Plain, Swallowed, Dropped}
+use Rattle.rig.specs.declared.Judgement.{Judgement}
+use Rattle.rig.specs.declared.Taken.{Taken}
+use Rattle.rig.specs.Words.{highOf, lowOf, nothingPending, newBlock, oneMore, settledOf, refusedOf, checkOf}
+use Rattle.rig.specs.Replies.{refusalsOf}
+use Rattle.laws.specs.Replies.{booked, bookedDrop, After}
+use Rattle.laws.specs.Runs.{named, latestError, latestCode}
+use Rattle.laws.proofs.Tests.{by-test}
+use Rattle.laws.proofs.Commands.{CoreFits}
+use Rattle.laws.proofs.Words.{Fresh, judged, begun, Case, idle, kept, closed, swallowed, again}
+use Rattle.laws.proofs.Replies.{number-is}
+
+-- lists of bytes
+zeros : (n : ℕ) → Bytes (replicate n 0)
+zeros zero = tt
+zeros (suc n) = (omega arith, zeros n)
+
+taken : (n : ℕ) (s : List ℕ) → Bytes s → Bytes (take n s)
+taken zero s h = tt
+taken (suc n) [] h = tt
+taken (suc n) (b ∷ s) h = (h .0, taken n s (h .1))
+
+stored : (s : List ℕ) (i b : ℕ) → Bytes s → b < 0x100 → Bytes (set s i b)
+stored [] i b h k = tt
+stored (x ∷ s) zero b h k = (k, h .1)
+stored (x ∷ s) (suc i) b h k = (h .0, stored s i b (h .1) k)
+
+-- the check of stored bytes is a byte
+pub check-small : (p : Pending) → Bytes (p .bytes) → checkOf p < 0x100
+unfolding crcOf
+check-small p h = laws .fits 0 (take (p .n) (p .bytes)) (omega arith) (taken (p .n) (p .bytes) h)
+
+pub record PendingFits (p : Pending) : Type 0 where
+  pub n : p .n ≤ 79
+  pub got : p .got ≤ p .n
+  pub head : p .head < 0x100
+  pub room : length (p .bytes) ≡ 79
+  pub bytes : Bytes (p .bytes)
+  pub idle : p .waiting ≡ false → p ≡ nothingPending
+
+pub nothing-fits : PendingFits nothingPending
+nothing-fits = record { n = omega arith; got = omega arith; head = omega arith; room = refl; bytes = zeros 79; idle = λ e. refl }
+
+new-fits : (high n : ℕ) → high < 0x100 → n ≤ 79 → PendingFits (newBlock high n)
+new-fits high n h k = record { n = k; got = omega arith; head = h; room = refl; bytes = zeros 79; idle = λ e. absurd (true≢false e) }
+
+more-fits : (p : Pending) (low : ℕ) → p .waiting ≡ true → p .got < p .n → low < 0x100 → PendingFits p → PendingFits (oneMore p low)
+more-fits p low w k l h =
+    record {
+      n = h .n;
+      got = omega arith;
+      head = h .head;
+      room = simp length-set (h .room);
+      bytes = stored (p .bytes) (p .got) low (h .bytes) l;
+      idle = λ e. absurd (true≢false (sym w ∙ e));
+    }
+
+abbrev pub Fits : Rig → Type 0
+Fits r = CoreFits (r .core) × PendingFits (r .pending)
+
+fresh-fits : {r : Rig} {high low : ℕ} {j : Judgement} → Fresh r high low j → high < 0x100 → Fits r → Fits (j .rig)
+unfolding settledOf refusedOf
+fresh-fits (judged (Apply c) k) a h = (k (h .0), h .1)
+fresh-fits (judged (Deny why) k) a h = h
+fresh-fits {high = high} {low = low} (begun k) a h = (h .0, new-fits high low a k)
+
+pub word-fits : {r : Rig} {high low : ℕ} {b : Bool} {t : Taken} → Case r high low b t → high < 0x100 → low < 0x100 → Fits r → Fits (t .rig)
+unfolding settledOf refusedOf
+word-fits (idle e j f) a l h = fresh-fits f a h
+word-fits {r} {low = low} (kept e k) a l h = (h .0, more-fits (r .pending) low e k l (h .1))
+word-fits (closed e (Apply c) k) a l h = (k (h .0) (h .1 .bytes), nothing-fits)
+word-fits (closed e (Deny why) k) a l h = (h .0, nothing-fits)
+word-fits (swallowed e) a l h = (h .0, nothing-fits)
+word-fits (again e j f) a l h = fresh-fits f a (h .0, nothing-fits)
+
+-- The faults f after n refusals, of which the latest had that number and byte.
+pub record Told (f : Faults) (n number byte : ℕ) : Type 0 where
+  pub count : f .count ≡ n % 256
+  pub error : f .error ≡ number
+  pub last : f .last ≡ byte
+  pub small : f .error ≤ 15
+  pub fits : f .last < 0x100
+
+book : {f : Faults} {n e l : ℕ} (high number : ℕ) → Told f n e l → high < 0x100 → number ≤ 15 → Told (booked f high number) (n + 1) number high
+book high number h a b = record { count = omega arith; error = refl; last = refl; small = b; fits = a }
+
+-- a dropped block is booked under its head's byte, which is what it is named by
+dropped-told : (r q : Rig) (w n e l : ℕ) → r .pending .waiting ≡ true → q .faults ≡ bookedDrop r → r .pending .head < 0x100 → Told (r .faults) n e l
+    → Told (q .faults) (n + 1) 0x03 (named r w)
+dropped-told r q w n e l p f a h =
+    let head : named r w ≡ r .pending .head = ap (λ (b : Bool). pick b (r .pending .head) (highOf w)) p in
+    rw (f, head) (book (r .pending .head) 0x03 h a (omega arith))
+
+pub told : (r q : Rig) (w : ℕ) (y : Reply) (n e l : ℕ) → After r w q y → r .pending .head < 0x100 → highOf w < 0x100 → Told (r .faults) n e l
+    → Told (q .faults) (n + length (refusalsOf y)) (latestError e y) (latestCode l r w y)
+told r q w (Plain Accepted) n e l m a b h = rw (m .0, add-zero n) h
+told r q w (Plain Waiting) n e l m a b h = rw (m .1, add-zero n) h
+told r q w (Plain (Refused why)) n e l m a b h =
+    rw (m .1) (book (named r w) (numberOf why) h (by-test (_< 0x100) (r .pending .waiting) (λ p. a) (λ p. b)) (number-is why .0))
+told r q w Swallowed n e l m a b h = dropped-told r q w n e l (m .0) (m .2) a h
+told r q w (Dropped Accepted) n e l m a b h = dropped-told r q w n e l (m .0) (m .1) a h
+told r q w (Dropped Waiting) n e l m a b h = dropped-told r q w n e l (m .0) (m .2) a h
+told r q w (Dropped (Refused why)) n e l m a b h =
+    let two : n + 1 + 1 ≡ n + 2 = omega arith in
+    rw (m .2) (rw two at (book (highOf w) (numberOf why) (book (r .pending .head) 0x03 h a (omega arith)) b (number-is why .0)))

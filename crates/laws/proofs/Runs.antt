@@ -1,0 +1,203 @@
+-- What every run keeps (specs/Runs): one invariant of the rig and its ledger, kept by each event; a run is an induction over its events.
+-- Assumes nothing.
+use Prim.Native.Nat.{ℕ, zero, suc, _+_, _%_, _<_, _≤_}
+use mathlib.Core.Path.{_≡_, refl, ap, sym, subst, _∙_}
+use mathlib.Core.Bool.{Bool, true, false}
+use mathlib.Core.List.{List, [], _∷_}
+use native.Mathlib.Omega.{arith}
+use native.Mathlib.Nat.{not-suc-le-zero}
+use native.Mathlib.Decide.{ℕ-discrete}
+use lib.Dec.{eqb}
+use Rattle.base.specs.Pick.{pick}
+use Rattle.supply.proofs.Kept.{stepped-safe, stepped-quiet}
+use Rattle.frame.specs.Items.{heldAt}
+use Rattle.frame.specs.Read.{remOf}
+use Rattle.rig.specs.declared.Panel.{Panel}
+use Rattle.rig.specs.declared.PanelSetting.{PanelSetting}
+use Rattle.rig.specs.declared.PanelSetting.the-variants.{Bias, Ground, FreeTime, Flaps}
+use Rattle.rig.specs.declared.Sending.{Sending}
+use Rattle.rig.specs.declared.Rig.{Rig}
+use Rattle.rig.specs.Words.{highOf, lowOf, checkOf, takeOf}
+use Rattle.rig.specs.Power.{startRig, panelOf, setOf}
+use Rattle.rig.specs.Frames.{heldOf, bit, nextLatch}
+use Rattle.laws.specs.Replies.{closing}
+use Rattle.laws.specs.Runs.{FitsPanel, Event, word, spin, set, cut, frame, ours, after, run, Ledger, blank, entered, ledger, reached, given, Bounds, RunLaws}
+use Rattle.laws.proofs.Tests.{by-test}
+use Rattle.laws.proofs.Commands.{CoreFits}
+use Rattle.laws.proofs.Words.{case}
+use Rattle.laws.proofs.Replies.{reply-laws}
+use Rattle.laws.proofs.Bounds.{PendingFits, nothing-fits, check-small, Fits, word-fits, Told, told}
+
+record PanelFits (p : Panel) : Type 0 where
+  bias : p .bias < 0x100
+  ground : p .ground < 0x100
+  free : p .free < 0x10000
+
+record SendingFits (s : Sending) : Type 0 where
+  next : s .next ≤ 31
+  latch : s .latch < 0x100000000
+
+record Inv (r : Rig) (l : Ledger) : Type 0 where
+  told : Told (r .faults) (l .refusals) (l .error) (l .last)
+  counter : r .edbs .0 ≡ l .spins % 0x100000000
+  check : r .check ≡ l .check
+  byte : r .check < 0x100
+  fits : Fits r
+  panel : PanelFits (r .panel)
+  sending : SendingFits (r .sending)
+
+start-inv : Inv startRig blank
+start-inv =
+    record {
+      told = record { count = refl; error = refl; last = refl; small = omega arith; fits = omega arith };
+      counter = refl;
+      check = refl;
+      byte = omega arith;
+      fits = (
+        record {
+          safe = record { under = omega arith; limit-small = omega arith; level-small = omega arith };
+          quiet = λ e. (refl, refl);
+          mask = omega arith;
+          mux = omega arith;
+          direction = record { start = omega arith; stop = omega arith };
+          energy = record { start = omega arith; stop = omega arith };
+        },
+        nothing-fits,
+      );
+      panel = record { bias = omega arith; ground = omega arith; free = omega arith };
+      sending = record { next = omega arith; latch = omega arith };
+    }
+
+word-inv : (r : Rig) (l : Ledger) (w : ℕ) (h : w < 0x10000) → Inv r l → Inv (takeOf r w .rig) (entered ours r (word w h) l)
+word-inv r l w h i =
+    let high : highOf w < 0x100 = omega arith in
+    let low : lowOf w < 0x100 = omega arith in
+    let q = takeOf r w .rig in
+    let p = i .fits .1 in
+    let apart = reply-laws .apart r w in
+    let check = reply-laws .check r w in
+    record {
+      told = told r q w (takeOf r w .reply) (l .refusals) (l .error) (l .last) (reply-laws .moves r w) (p .head) high (i .told);
+      counter = rw (apart .edbs) (i .counter);
+      check = check ∙ ap (pick (closing r w) (checkOf (r .pending))) (i .check);
+      byte = rw check (by-test (_< 0x100) (closing r w) (λ e. check-small (r .pending) (p .bytes)) (λ e. i .byte));
+      fits = word-fits (case r w) high low (i .fits);
+      panel = rw (apart .panel) (i .panel);
+      sending = rw (apart .sending) (i .sending);
+    }
+
+panel-set : (p : Panel) (s : PanelSetting) → FitsPanel s → PanelFits p → PanelFits (panelOf p s)
+panel-set p (Bias b) k h = record { bias = k; ground = h .ground; free = h .free }
+panel-set p (Ground b) k h = record { bias = h .bias; ground = k; free = h .free }
+panel-set p (FreeTime t) k h = record { bias = h .bias; ground = h .ground; free = k }
+panel-set p (Flaps a b c) k h = record { bias = h .bias; ground = h .ground; free = h .free }
+
+after-inv : (r : Rig) (l : Ledger) (e : Event) → Inv r l → Inv (after ours r e) (entered ours r e l)
+unfolding setOf
+after-inv r l (word w h) i = word-inv r l w h i
+after-inv r l spin i =
+    let c = i .fits .0 in
+    record {
+      told = i .told;
+      counter = let e = i .counter in omega arith;
+      check = i .check;
+      byte = i .byte;
+      fits = (record { safe = stepped-safe (r .core .supply) (c .safe); quiet = stepped-quiet (r .core .supply) (c .quiet); mask = c .mask; mux = c .mux; direction = c .direction; energy = c .energy }, i .fits .1);
+      panel = i .panel;
+      sending = i .sending;
+    }
+after-inv r l (set s h) i =
+    record { told = i .told; counter = i .counter; check = i .check; byte = i .byte; fits = i .fits; panel = panel-set (r .panel) s h (i .panel); sending = i .sending }
+after-inv r l cut i = start-inv
+after-inv r l frame i =
+    let long : r .edbs .0 < 0x100000000 = let e = i .counter in omega arith in
+    let free : r .panel .free < 0x100000000 = let e = i .panel .free in omega arith in
+    let at = r .sending .next % 32 in
+    let latched : nextLatch r < 0x100000000 = by-test (_< 0x100000000) (eqb at 0) (λ e. long) (λ e. by-test (_< 0x100000000) (eqb at 27) (λ f. free) (λ f. i .sending .latch)) in
+    record { told = i .told; counter = i .counter; check = i .check; byte = i .byte; fits = i .fits; panel = i .panel; sending = record { next = omega arith; latch = latched } }
+
+run-inv : (r : Rig) (l : Ledger) (es : List Event) → Inv r l → Inv (run ours r es) (ledger ours r l es)
+unfolding run ledger
+run-inv r l [] i = i
+run-inv r l (e ∷ es) i = run-inv (after ours r e) (entered ours r e l) es (after-inv r l e i)
+
+always : (es : List Event) → Inv (reached ours es) (given ours es)
+always es = run-inv startRig blank es start-inv
+
+bounded : {r : Rig} {l : Ledger} → Inv r l → Bounds r
+bounded i =
+    let c = i .fits .0 in
+    let p = i .fits .1 in
+    record {
+      target = c .safe .under;
+      limit = c .safe .limit-small;
+      level = c .safe .level-small;
+      off = c .quiet;
+      mask = c .mask;
+      mux = c .mux;
+      directionStart = c .direction .start;
+      directionStop = c .direction .stop;
+      energyStart = c .energy .start;
+      energyStop = c .energy .stop;
+      error = i .told .small;
+      last = i .told .fits;
+      count = let e = i .told .count in omega arith;
+      check = i .byte;
+      n = p .n;
+      got = p .got;
+      head = p .head;
+      room = p .room;
+      bytes = p .bytes;
+      idle = p .idle;
+      bias = i .panel .bias;
+      ground = i .panel .ground;
+      free = i .panel .free;
+      next = i .sending .next;
+      latch = i .sending .latch;
+      edbs = let e = i .counter in omega arith;
+    }
+
+-- f is below g at each number below n
+abbrev Under : (f g : ℕ → ℕ) → ℕ → Type 0
+Under f g zero = Unit {0}
+Under f g (suc n) = (f n < g n) × Under f g n
+
+under : (f g : ℕ → ℕ) (n : ℕ) → Under f g n → (k : ℕ) → k < n → f k < g k
+under f g zero u k h = absurd (not-suc-le-zero h)
+under f g (suc n) u k h =
+    elim (ℕ-discrete k n) [
+      | yes e ↦ subst (λ (m : ℕ). f m < g m) (sym e) (u .0)
+      | no ne ↦ under f g n (u .1) k (omega arith)
+    ]
+
+bit-small : (b : Bool) → bit b < 2
+bit-small true = omega arith
+bit-small false = omega arith
+
+-- the switches are bits; the rest is within its bounds, or reduced
+widths : (r : Rig) → Bounds r → (k : ℕ) → k < 25 → heldAt (heldOf r) k < remOf k
+widths r b =
+    let s = r .core .settings in
+    let p = r .panel in
+    let parallel = bit-small (s .parallel) in
+    let enable = bit-small (s .iel .enable) in
+    let clock = bit-small (s .iel .clock) in
+    let relay = bit-small (r .core .supply .relay) in
+    let stepping = bit-small (r .core .supply .stepping) in
+    let flap1 = bit-small (p .flap1) in
+    let flap2 = bit-small (p .flap2) in
+    let flap3 = bit-small (p .flap3) in
+    under (heldAt (heldOf r)) remOf 25 (omega arith)
+
+pub run-laws : RunLaws ours
+run-laws =
+    record {
+      count = λ es. always es .told .count;
+      counter = λ es. always es .counter;
+      error = λ es. always es .told .error;
+      last = λ es. always es .told .last;
+      check = λ es. always es .check;
+      bounds = λ es. bounded (always es);
+      widths = λ es. widths (reached ours es) (bounded (always es));
+      cut = λ r. refl;
+    }
