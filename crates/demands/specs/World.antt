@@ -1,0 +1,109 @@
+-- A rig, a desk and the history of slots between them; everything that can happen; and runs from the start.
+-- Keeps 01 whole. Every frame that is built is one slot, whole or missed. Assumes nothing.
+use mathlib.Core.Path.{_≡_}
+use mathlib.Core.List.{List, [], _∷_}
+use Prim.Native.Nat.{ℕ, _+_, _<_}
+use lib.ListN.{length, replicate}
+use Rattle.frame.specs.declared.Item.{Item}
+use Rattle.frame.specs.Items.{rowOf}
+use Rattle.desk.specs.declared.Desk.{Desk}
+use Rattle.desk.specs.declared.Shown.{Shown}
+use Rattle.desk.specs.declared.Received.{Received}
+use Rattle.desk.specs.Desk.{freshDesk, slotOf, missedOf, shows}
+use Rattle.rig.specs.declared.PanelSetting.{PanelSetting}
+use Rattle.rig.specs.declared.Rig.{Rig}
+use Rattle.rig.specs.Frames.{builtOf}
+use Rattle.bench.specs.Bench.{nextFrame}
+use Rattle.laws.specs.Runs.{FitsPanel, Machine, ours}
+use Rattle.demands.specs.History.{Slot, missed, whole}
+
+-- The functions of a rig and a desk. The demands are said of any such.
+pub record Outfit : Type 0 where
+  pub rig : Machine
+  pub frame : Rig → List ℕ
+  pub fresh : Desk
+  pub slot : Desk → List ℕ → Received
+  pub missed : Desk → Desk
+  pub look : Desk → Item → Shown
+
+-- Ours: the definitions that our functions are proved to meet.
+abbrev pub proved : Outfit
+proved =
+    record {
+      rig = ours;
+      frame = nextFrame;
+      fresh = freshDesk;
+      slot = slotOf;
+      missed = missedOf;
+      look = λ d item. shows d (rowOf item);
+    }
+
+pub record World : Type 0 where
+  pub rig : Rig
+  pub desk : Desk
+  pub past : List Slot
+
+abbrev pub fillC0 : List ℕ
+fillC0 = replicate 40 0xC0
+
+abbrev pub fillFF : List ℕ
+fillFF = replicate 40 0xFF
+
+pub data Event : Type 0 where
+  -- a word of 16 bits, a spin, a setting by the instructor, a power cut: the desk hears nothing
+  word : (w : ℕ) → w < 0x10000 → Event
+  spin : Event
+  set : (s : PanelSetting) → FitsPanel s → Event
+  cut : Event
+  -- the next frame is built and its slot arrives whole
+  arrives : Event
+  -- the next frame is built and its slot is marked missed, or arrives as fill
+  lost : Event
+  lostC0 : Event
+  lostFF : Event
+  -- no frame is built, and a slot is marked missed or arrives as fill
+  idle : Event
+  idleC0 : Event
+  idleFF : Event
+  -- a frame was to be built where there is no room (18)
+  noRoom : (b : List ℕ) (at : ℕ) → length b < at + 40 → Event
+  -- no frame is built, and bytes of another length are handed to the desk (17): no slot passes
+  torn : (f : List ℕ) → (length f ≡ 40 → ⊥) → Event
+
+module _ (o : Outfit) where
+  abbrev pub start : World
+  start = record { rig = o .rig .start; desk = o .fresh; past = [] }
+
+  abbrev pub withRig : World → Rig → World
+  withRig w r = record { rig = r; desk = w .desk; past = w .past }
+
+  -- a frame built whose slot became the desk d, and is told as s
+  abbrev pub built : World → Desk → Slot → World
+  built w d s = record { rig = o .rig .sent (w .rig); desk = d; past = s ∷ w .past }
+
+  -- a slot with no frame built
+  abbrev pub unbuilt : World → Desk → World
+  unbuilt w d = record { rig = w .rig; desk = d; past = missed ∷ w .past }
+
+  abbrev pub next : World → Event → World
+  next w (word x h) = withRig w (o .rig .take (w .rig) x .rig)
+  next w spin = withRig w (o .rig .spin (w .rig))
+  next w (set s h) = withRig w (o .rig .set (w .rig) s)
+  next w cut = withRig w (o .rig .cut (w .rig))
+  next w arrives = built w (o .slot (w .desk) (o .frame (w .rig)) .desk) (whole (w .rig))
+  next w lost = built w (o .missed (w .desk)) missed
+  next w lostC0 = built w (o .slot (w .desk) fillC0 .desk) missed
+  next w lostFF = built w (o .slot (w .desk) fillFF .desk) missed
+  next w idle = unbuilt w (o .missed (w .desk))
+  next w idleC0 = unbuilt w (o .slot (w .desk) fillC0 .desk)
+  next w idleFF = unbuilt w (o .slot (w .desk) fillFF .desk)
+  next w (noRoom b at h) = withRig w (builtOf (w .rig) b at .rig)
+  next w (torn f h) = record { rig = w .rig; desk = o .slot (w .desk) f .desk; past = w .past }
+
+  unfoldable pub run : World → List Event → World
+  run w [] = w
+  run w (e ∷ es) = run (next w e) es
+
+  -- the world after any events
+  abbrev pub after : List Event → World
+  after es = run start es
