@@ -6,3 +6,5 @@ pub mod Replies
 pub mod Rows
 pub mod Bounds
 pub mod Runs
+pub mod One
+pub mod Examples

@@ -20,7 +20,7 @@ use Rattle.rig.specs.declared.Answer.the-variants.{Waiting}
 use Rattle.rig.specs.declared.Reply.the-variants.{Plain, Swallowed}
 use Rattle.rig.specs.declared.Taken.{Taken}
 use Rattle.rig.specs.Words.{highOf, lowOf, kindOf, codeOf, keeps, withPending, withCheck, nothingPending, newBlock, oneMore, checkOf, dropped, plain, settledOf}
-use Rattle.laws.specs.Replies.{closing}
+use Rattle.laws.specs.Replies.{closing, ReplyLaws}
 
 -- Singles with nothing pending. The word is its code and its low byte: the high byte's top two bits are 0.
 abbrev pub single : ℕ → ℕ → ℕ
@@ -120,3 +120,9 @@ pub record RowLaws (take : Rig → ℕ → Taken) : Type 0 where
       → take r w ≡ record { rig = dropped r; reply = Swallowed }
   pub swallowedEnd : (r : Rig) (w : ℕ) → r .pending .waiting ≡ true → kindOf (highOf w) ≡ End → closing r w ≡ false
       → take r w ≡ record { rig = dropped r; reply = Swallowed }
+
+-- These laws and those of the replies leave a word one answer and one rig: two functions that keep them agree at every rig and every word.
+abbrev pub OneRig : Type 0
+OneRig =
+    (take other : Rig → ℕ → Taken) → RowLaws take → ReplyLaws take → RowLaws other → ReplyLaws other
+    → (r : Rig) (w : ℕ) → take r w ≡ other r w
