@@ -1,0 +1,2 @@
+-- Single outcome of the rig's functions.
+pub mod Single
