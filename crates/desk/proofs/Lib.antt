@@ -1,2 +1,3 @@
 -- Laws that the proofs of `desk` are written with.
 pub mod Laws
+pub mod Single

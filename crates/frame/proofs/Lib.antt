@@ -8,3 +8,4 @@ pub mod Back
 pub mod Tells
 pub mod Unread
 pub mod Laws
+pub mod Single
