@@ -1,41 +1,52 @@
--- Congruences of a shown value, and the reading of an item by its kind: plain, or spread over frames.
+-- The laws of the desk hold.
 -- Assumes nothing.
-use mathlib.Core.Path.{_≡_, refl, ap, sym}
-use mathlib.Core.Bool.{false}
+use mathlib.Core.Path.{_≡_, refl, sym, ap, _∙_}
 use mathlib.Core.List.{List}
-use Prim.Native.Nat.{ℕ, _+_, _%_, _<_}
+use Prim.Native.Nat.{ℕ, _<_}
 use native.Mathlib.Omega.{arith}
-use lib.Dec.{eqb, ltb}
-use lib.ListN.{length, getD}
-use borrow.Author.Tests.{eq-eqb, lt-ltb}
-use Rattle.base.specs.Pick.{pick}
-use Rattle.base.specs.Counts.{frames}
-use Rattle.base.proofs.Cases.{split}
-use Rattle.frame.specs.Read.{indexOf, carries, periodOf, phaseOf, bornOf, readOf}
-use Rattle.desk.specs.declared.Half.{Half}
-use Rattle.desk.specs.declared.Shown.the-variants.{Known, Unknown}
-use Rattle.desk.specs.Desk.{bornAt, grownOf, plainOf, readingOf, halfAt, halfAfter}
+use lib.ListN.{length, replicate}
+use borrow.Author.Tests.{ne-eqb}
+use Rattle.frame.specs.declared.Arrived.the-variants.{Whole}
+use Rattle.frame.specs.Items.{numbered}
+use Rattle.frame.specs.Write.{frameOf}
+use Rattle.frame.specs.Read.{arrivedOf, allAre}
+use Rattle.frame.specs.Laws.{Alike}
+use Rattle.frame.proofs.Tells.{whole}
+use Rattle.desk.specs.declared.Answer.the-variants.{Heard, Missed, Refused}
+use Rattle.desk.specs.declared.Desk.{Desk}
+use Rattle.desk.specs.Desk.{readingOf, nothing, missedOf, heardOf, slotOf}
+use Rattle.desk.specs.Laws.{answered, Laws}
+use Rattle.desk.proofs.Cells.{at-cell}
+use Rattle.desk.proofs.Unread.{heard-same}
 
-pub value : {m n a : ℕ} → m ≡ n → Known m (frames a) ≡ Known n (frames a)
-value {a = a} e = ap (λ (x : ℕ). Known x (frames a)) e
+module _ (d : Desk) where
+  refused : (f : List ℕ) → (length f ≡ 40 → ⊥) → slotOf d f ≡ answered (Refused (numbered 17)) d
+  unfolding slotOf arrivedOf
+  refused f n = rw (ne-eqb (length f) 40 n)
 
-pub value-plus : (k : ℕ) {m n a : ℕ} → m ≡ n → Known (k + m) (frames a) ≡ Known (k + n) (frames a)
-value-plus k {a = a} e = ap (λ (x : ℕ). Known (k + x) (frames a)) e
+  fill-C0 : slotOf d (replicate 40 0xC0) ≡ answered Missed (missedOf d)
+  unfolding slotOf arrivedOf allAre
+  fill-C0 = refl
 
--- a plain item is what `frame` reads
-pub plain-is : (half : Half) (f : List ℕ) (k : ℕ) → length f ≡ 40 → k < 25 → plainOf (readOf f k) ≡ readingOf half f k
-unfolding readOf readingOf
-plain-is half f k n h = rw (eq-eqb _ _ n, lt-ltb _ _ h) (split (carries k (indexOf f)) (λ e. rw e refl) (λ e. rw e refl))
+  fill-FF : slotOf d (replicate 40 0xFF) ≡ answered Missed (missedOf d)
+  unfolding slotOf arrivedOf allAre
+  fill-FF = refl
 
--- a spread number comes with the frame that its row names, from the index i and byte 39 b
-pub spread-is : (half : Half) (f : List ℕ) (i b k j : ℕ) → i ≡ indexOf f → b ≡ getD f 39 0 → k ≡ j → periodOf j ≡ 32 → ltb j 25 ≡ false
-    → pick (eqb i (phaseOf j)) (bornAt (bornOf j) (grownOf half i b)) Unknown ≡ readingOf half f k
-unfolding readingOf
-spread-is half f i b k j p q r t s =
-    let m : indexOf f % 32 ≡ indexOf f = omega arith in
-    rw (p, q, r, t, s, m)
+  heard-whole : (f : List ℕ) (i b : ℕ) → arrivedOf f ≡ Whole i b → slotOf d f ≡ answered Heard (heardOf d f)
+  unfolding slotOf
+  heard-whole f i b e = rw e
 
--- what is half read, from the index i and byte 39 b
-pub half-is : (half : Half) (f : List ℕ) (i b : ℕ) → i ≡ indexOf f → b ≡ getD f 39 0 → halfAt half i b ≡ halfAfter half f
-unfolding halfAfter
-half-is half f i b p q = rw (p, q)
+  unread : (f g : List ℕ) (i b j c : ℕ) → Alike f g → arrivedOf f ≡ Whole i b → arrivedOf g ≡ Whole j c → slotOf d f ≡ slotOf d g
+  unread f g i b j c a p q = heard-whole f i b p ∙ ap (answered Heard) (heard-same d f g a) ∙ sym (heard-whole g j c q)
+
+pub laws : Laws
+laws =
+    record {
+      refused = refused;
+      fill-C0 = fill-C0;
+      fill-FF = fill-FF;
+      built = λ d h i l. heard-whole d (frameOf h i l) _ _ (whole h i l);
+      unread = unread;
+      at-miss = λ d k n h. ap (λ c. c .shown) (at-cell nothing 27 (d .cells) (omega arith) k h);
+      at-frame = λ d f k n h. ap (λ c. c .shown) (at-cell (readingOf (d .half) f) 27 (d .cells) (omega arith) k h);
+    }

@@ -1,2 +1,3 @@
 -- What the desk does at a slot.
 pub mod Desk
+pub mod Laws

@@ -67,8 +67,8 @@ pub fn look(desk: Desk, item: Item) -> Shown
 {
     let k = frame::row_of(item);
     let cells = desk.cells;
-    let c = cells[k];
-    c.shown
+    let cell = cells[k];
+    cell.shown
 }
 
 // One slot later.

@@ -5,7 +5,7 @@ use borrow.Author.Needs.{needs}
 use borrow.Author.Tests.{eq-eqb, ne-eqb}
 use Rattle.desk.specs.declared.Half.{Half}
 use Rattle.desk.specs.Desk.{joined}
-use Rattle.desk.proofs.Laws.{value, value-plus}
+use Rattle.desk.proofs.Readings.{value, value-plus}
 use Rattle.desk.proofs.grown.Statement.{statement}
 use Rattle.desk.proofs.grown.Tie as tie
 

@@ -3,7 +3,7 @@
 use mathlib.Core.Path.{_∙_}
 use denote.Ref.{now}
 use borrow.Author.Needs.{needs}
-use Rattle.desk.proofs.Laws.{half-is}
+use Rattle.desk.proofs.Readings.{half-is}
 use Rattle.desk.proofs.heard.Statement.{statement}
 use Rattle.desk.proofs.heard.Tie as tie
 

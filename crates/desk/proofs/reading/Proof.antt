@@ -5,7 +5,7 @@ use native.Mathlib.Omega.{arith}
 use denote.Ref.{now}
 use borrow.Author.Needs.{needs}
 use Rattle.desk.specs.Desk.{plainOf}
-use Rattle.desk.proofs.Laws.{plain-is, spread-is}
+use Rattle.desk.proofs.Readings.{plain-is, spread-is}
 use Rattle.desk.proofs.reading.Statement.{statement}
 use Rattle.desk.proofs.reading.Tie as tie
 

@@ -1,0 +1,35 @@
+-- What a slot does to a desk, for every desk and all bytes, said beside `slotOf` in 01's own terms.
+-- Assumes nothing.
+use mathlib.Core.Path.{_≡_}
+use mathlib.Core.List.{List}
+use Prim.Native.Nat.{ℕ, _<_}
+use lib.ListN.{length, replicate}
+use Rattle.frame.specs.declared.Held.{Held}
+use Rattle.frame.specs.declared.Arrived.the-variants.{Whole}
+use Rattle.frame.specs.Items.{numbered}
+use Rattle.frame.specs.Write.{frameOf}
+use Rattle.frame.specs.Read.{arrivedOf}
+use Rattle.frame.specs.Laws.{Alike}
+use Rattle.desk.specs.declared.Desk.{Desk}
+use Rattle.desk.specs.declared.Answer.{Answer}
+use Rattle.desk.specs.declared.Answer.the-variants.{Heard, Missed, Refused}
+use Rattle.desk.specs.declared.Received.{Received}
+use Rattle.desk.specs.Desk.{agedOf, latestOf, readingOf, shows, missedOf, heardOf, slotOf}
+
+abbrev pub answered : Answer → Desk → Received
+answered a d = record { answer = a; desk = d }
+
+pub record Laws : Type 0 where
+  -- not 40 bytes: 17, and nothing changes
+  pub refused : (d : Desk) (f : List ℕ) → (length f ≡ 40 → ⊥) → slotOf d f ≡ answered (Refused (numbered 17)) d
+  -- 40 equal bytes C0h or FFh are a miss
+  pub fill-C0 : (d : Desk) → slotOf d (replicate 40 0xC0) ≡ answered Missed (missedOf d)
+  pub fill-FF : (d : Desk) → slotOf d (replicate 40 0xFF) ≡ answered Missed (missedOf d)
+  -- every frame that a rig builds is heard
+  pub built : (d : Desk) (h : Held) (i l : ℕ) → slotOf d (frameOf h i l) ≡ answered Heard (heardOf d (frameOf h i l))
+  -- of two whole frames that differ in unread bits alone the desk makes the same
+  pub unread : (d : Desk) (f g : List ℕ) (i b j c : ℕ) → Alike f g → arrivedOf f ≡ Whole i b → arrivedOf g ≡ Whole j c → slotOf d f ≡ slotOf d g
+  -- item by item, of a desk with its 27 cells: a miss makes it one slot older; a whole frame shows what it brings, else the same
+  pub at-miss : (d : Desk) (k : ℕ) → length (d .cells) ≡ 27 → k < 27 → shows (missedOf d) k ≡ agedOf (shows d k)
+  pub at-frame : (d : Desk) (f : List ℕ) (k : ℕ) → length (d .cells) ≡ 27 → k < 27
+      → shows (heardOf d f) k ≡ latestOf (readingOf (d .half) f k) (shows d k)
