@@ -3,7 +3,7 @@
 use mathlib.Core.Path.{_≡_, refl, sym, ap, _∙_}
 use mathlib.Core.Bool.{Bool, true, false}
 use Prim.Native.Nat.{ℕ, _%_, _<_}
-use native.Mathlib.Nat.{mod-mod}
+use native.Mathlib.Nat.{mod-eq-of-lt}
 use native.Mathlib.Omega.{arith}
 use lib.Dec.{eqb}
 use borrow.Author.Tests.{eqb-true, lt-ltb}
@@ -12,7 +12,7 @@ use Rattle.frame.specs.declared.Reading.the-variants.{Nothing, Value}
 use Rattle.frame.specs.Items.{heldAt}
 use Rattle.frame.specs.Write.{frameOf}
 use Rattle.frame.specs.Read.{remOf, phaseOf, carries, indexOf, fieldOf, readOf}
-use Rattle.frame.specs.Laws.{Laws}
+use Rattle.frame.specs.Laws.{Fits, Laws}
 use Rattle.frame.proofs.Rows.{rounds}
 use Rattle.frame.proofs.Back.{field-back}
 use Rattle.frame.proofs.Tells.{hides, long-is, free-is, unlatched, stays, whole, no-fill}
@@ -28,6 +28,12 @@ module _ (h : Held) (i l k : ℕ) (b : k < 25) where
   unfolding readOf
   back e = unfold frameOf in rw (lt-ltb _ _ b, carried ∙ e) (ap Value (field-back h i l k b (eqb-true _ _ e)))
 
+  exact : Fits h → carries k i ≡ true → readOf (frameOf h i l) k ≡ Value (heldAt h k)
+  exact f e = back e ∙ value (mod-eq-of-lt (f .plain k b))
+    where
+      value : {m n : ℕ} → m ≡ n → Value m ≡ Value n
+      value q = ap Value q
+
   silent : carries k i ≡ false → readOf (frameOf h i l) k ≡ Nothing
   unfolding readOf
   silent e = unfold frameOf in rw (lt-ltb _ _ b, carried ∙ e)
@@ -36,6 +42,7 @@ pub laws : Laws
 laws =
     record {
       back = back;
+      exact = λ h i l k f b. exact h i l k b f;
       silent = silent;
       hides = λ h g i l k b. hides h g i l k;
       long = long-is;

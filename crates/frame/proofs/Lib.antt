@@ -9,3 +9,4 @@ pub mod Tells
 pub mod Unread
 pub mod Laws
 pub mod Single
+pub mod Examples

@@ -44,6 +44,12 @@ masks i =
     ∷ 0x3F ∷ 0 ∷ 0 ∷ 0 ∷ 0 ∷ 0 ∷ 0 ∷ 0 ∷ 0 ∷ 0  -- 20-29
     ∷ 0 ∷ 0 ∷ 0 ∷ 0 ∷ 0 ∷ 0 ∷ 0xFF ∷ mask37 i ∷ mask38 i ∷ mask39 i ∷ []  -- 30-39
 
+-- each item is within its width
+pub record Fits (h : Held) : Type 0 where
+  pub plain : (k : ℕ) → k < 25 → heldAt h k < remOf k
+  pub long : h .long < 2 ^ 32
+  pub free : h .free < 2 ^ 16
+
 -- 40 bytes
 pub record Frame (f : List ℕ) : Type 0 where
   pub forty : length f ≡ 40
@@ -58,6 +64,7 @@ pub record Alike (f g : List ℕ) : Type 0 where
 pub record Laws : Type 0 where
   -- each plain item that a frame carries reads back, modulo its width; of any other the frame says nothing
   pub back : (h : Held) (i l k : ℕ) → k < 25 → carries k i ≡ true → readOf (frameOf h i l) k ≡ Value (heldAt h k % remOf k)
+  pub exact : (h : Held) (i l k : ℕ) → Fits h → k < 25 → carries k i ≡ true → readOf (frameOf h i l) k ≡ Value (heldAt h k)
   pub silent : (h : Held) (i l k : ℕ) → k < 25 → carries k i ≡ false → readOf (frameOf h i l) k ≡ Nothing
   -- a frame that does not carry an item tells nothing of it: with that item alone changed the bytes are the same
   pub hides : (h g : Held) (i l k : ℕ) → k < 27 → ((j : ℕ) → (j ≡ k → ⊥) → heldAt h j ≡ heldAt g j) → carries k i ≡ false
