@@ -19,20 +19,20 @@ innerMarkers = (0x212, 3) ∷ (0x475, 3) ∷ []
 abbrev pub spares : List Stretch
 spares = (0x009, 1) ∷ (0x155, 1) ∷ []
 
-abbrev pub nmOf : List Part → List Stretch
-nmOf [] = []
-nmOf (p ∷ ps) = (rowOf p .0, rowOf p .1) ∷ nmOf ps
+abbrev pub nmStretches : List Part → List Stretch
+nmStretches [] = []
+nmStretches (p ∷ ps) = (rowOf p .0, rowOf p .1) ∷ nmStretches ps
 
-abbrev pub bm1Of : List Part → List Stretch
-bm1Of [] = []
-bm1Of (p ∷ ps) = (rowOf p .2, rowOf p .3) ∷ bm1Of ps
+abbrev pub bm1Stretches : List Part → List Stretch
+bm1Stretches [] = []
+bm1Stretches (p ∷ ps) = (rowOf p .2, rowOf p .3) ∷ bm1Stretches ps
 
 -- all that an NM block holds, and all that a BM1 block holds
 abbrev pub nmHeld : List Stretch
-nmHeld = nmOf parts
+nmHeld = nmStretches parts
 
 abbrev pub bm1Held : List Stretch
-bm1Held = bm1Of parts ++ (innerMarkers ++ spares)
+bm1Held = bm1Stretches parts ++ (innerMarkers ++ spares)
 
 -- in how many of the stretches byte k lies
 abbrev pub holders : ℕ → List Stretch → ℕ

@@ -67,6 +67,13 @@ enum Group {
 // First byte and length in NM, the same in BM1, and who hides the part. A length of 0: not in that layout.
 struct Row(usize, usize, usize, usize, Group);
 
+// Where the two content descriptors stand.
+const FIRST: usize = 0x004;
+
+const NM_SECOND: usize = 0x14F;
+
+const BM1_SECOND: usize = 0x154;
+
 // The number that 01 gives a refusal.
 pub fn number(refusal: Refusal) -> u8
     ensures { λ r. ⌜ r ≡ numberOf refusal ⌝ }
@@ -88,7 +95,7 @@ fn row_of(part: Part) -> Row
     match part {
         Part::Marker => Row(0x000, 3, 0x000, 3, Group::Open),
         Part::Index => Row(0x003, 1, 0x003, 1, Group::Open),
-        Part::Descriptor1 => Row(0x004, 1, 0x004, 1, Group::Open),
+        Part::Descriptor1 => Row(FIRST, 1, FIRST, 1, Group::Open),
         Part::Calibration => Row(0x005, 2, 0x005, 2, Group::Ions),
         Part::MSigns => Row(0x007, 2, 0x007, 2, Group::Ions),
         Part::Sgl0 => Row(0x009, 1, 0, 0, Group::Ions),
@@ -101,7 +108,7 @@ fn row_of(part: Part) -> Row
         Part::IPad => Row(0x057, 96, 0x1B2, 96, Group::Ions),
         Part::I3dd => Row(0x0B7, 144, 0x215, 576, Group::Ions),
         Part::Mtrx => Row(0x147, 8, 0x455, 32, Group::Ions),
-        Part::Descriptor2 => Row(0x14F, 1, 0x154, 1, Group::Whole),
+        Part::Descriptor2 => Row(NM_SECOND, 1, BM1_SECOND, 1, Group::Whole),
         Part::EPad => Row(0x150, 96, 0, 0, Group::Electrons),
         Part::E3dd => Row(0x1B0, 72, 0x478, 1152, Group::Electrons),
         Part::M => Row(0x1F8, 8, 0x8F8, 8, Group::Electrons),
@@ -140,10 +147,10 @@ fn nm_layout(b: &[u8]) -> Layout
     if b.len() != 512 {
         return Layout::Bad(Refusal::WrongLength);
     }
-    if is_set(b[4], 4) {
-        return Layout::Nm(b[4], 0);
+    if is_set(b[FIRST], 4) {
+        return Layout::Nm(b[FIRST], 0);
     }
-    Layout::Nm(b[4], b[0x14F])
+    Layout::Nm(b[FIRST], b[NM_SECOND])
 }
 
 // What follows a BM1 marker. A memory dump has only the first marker, so the inner ones are not looked at there.
@@ -153,12 +160,12 @@ fn bm1_layout(b: &[u8]) -> Layout
     if b.len() != 2304 {
         return Layout::Bad(Refusal::WrongLength);
     }
-    if is_set(b[4], 4) {
-        return Layout::Bm1(b[4], 0);
+    if is_set(b[FIRST], 4) {
+        return Layout::Bm1(b[FIRST], 0);
     }
     if is_marker(b, 0x212, 0x4C, 0x43, 0xE2) {
         if is_marker(b, 0x475, 0x54, 0xE1, 0xE1) {
-            return Layout::Bm1(b[4], b[0x154]);
+            return Layout::Bm1(b[FIRST], b[BM1_SECOND]);
         }
     }
     Layout::Bad(Refusal::InnerMarker)
