@@ -4,4 +4,7 @@ pub mod Cells
 pub mod Half
 pub mod Invariant
 pub mod Window
+pub mod Demand1
+pub mod Demand2
 pub mod Demand3
+pub mod One

@@ -93,7 +93,7 @@ pub unknown-known : (v a : ℕ) → Unknown ≡ Known v (frames a) → ⊥
 unknown-known v a e = let z : _≡_ {A = ℕ} 0 1 = cc in omega arith
 
 -- what is brought is brought
-brings-is : (k v : ℕ) (h : List Slot) → Brings k v h → brought k h ≡ Known v (frames (bornOf k))
+pub brings-is : (k v : ℕ) (h : List Slot) → Brings k v h → brought k h ≡ Known v (frames (bornOf k))
 unfolding brought
 brings-is k v h b =
     let t : (t : List Slot) × (h ≡ whole (b .last) ∷ t) = top (b .came) in

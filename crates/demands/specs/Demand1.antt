@@ -1,0 +1,45 @@
+-- Demand 1: each entry point takes every word, frame and buffer length and ends with a definite answer. Bad input is refused by a number from 01's table,
+-- and what a refusal changes in the rig, the desk and a lent buffer is exactly what the rules list. That each function answers at all is what its proof
+-- says; the fields below say how, where it refuses. They hold for every rig, desk, buffer and block, also those that no run reaches. Assumes nothing.
+use mathlib.Core.Path.{_≡_}
+use mathlib.Core.List.{List, [], _++_}
+use Prim.Native.Nat.{ℕ, _+_, _≤_, _<_}
+use lib.ListN.{length, take, drop}
+use Rattle.frame.specs.declared.Wrote.the-variants.{Done}
+use Rattle.frame.specs.declared.Wrote.the-variants as wrote
+use Rattle.frame.specs.Items.{numbered}
+use Rattle.desk.specs.declared.Desk.{Desk}
+use Rattle.desk.specs.declared.Answer.the-variants as desk
+use Rattle.desk.specs.Laws.{answered}
+use Rattle.rig.specs.declared.Rig.{Rig}
+use Rattle.rig.specs.Frames.{builtOf, filledOf}
+use Rattle.laws.specs.Replies.{ReplyLaws}
+use Rattle.block.specs.declared.Part.{Part}
+use Rattle.block.specs.declared.Refusal.{Refusal}
+use Rattle.block.specs.declared.Located.the-variants as located
+use Rattle.block.specs.Parts.{locateOf, partOf}
+use Rattle.block.specs.Order.{numberIn, firstOf, partRefusals}
+use Rattle.event.specs.Event.{directOf}
+use Rattle.event.specs.Ifft.{eventOf, itemOf}
+use Rattle.event.specs.Order.{eventNumber, itemNumber, directRefusals, ifftRefusals}
+use Rattle.demands.specs.World.{Outfit}
+
+pub record Demand1For (o : Outfit) : Type 0 where
+  -- 03h-0Fh: what a word may move, by the reply it gets; a refusal moves error code, last invalid code and count, and ends a pending block
+  pub words : ReplyLaws (o .rig .take)
+  -- 17, a frame not of 40 bytes: nothing changes
+  pub frame17 : (d : Desk) (f : List ℕ) → (length f ≡ 40 → ⊥) → o .slot d f ≡ answered (desk.Refused (numbered 17)) d
+  -- 18, fewer than 40 bytes from the named place on, or the place past the end: nothing changes in the rig or the buffer, no frame is used up
+  pub room18 : (r : Rig) (b : List ℕ) (at : ℕ) → length b < at + 40
+      → (builtOf r b at ≡ record { rig = r; answer = wrote.Refused (numbered 18) }) × (filledOf r b at ≡ b)
+  -- with room, the frame stands at the named place and the bytes outside stay the same
+  pub room : (r : Rig) (b : List ℕ) (at : ℕ) → at + 40 ≤ length b
+      → (builtOf r b at .answer ≡ Done) × (filledOf r b at ≡ take at b ++ (o .frame r ++ drop (at + 40) b))
+  -- 19 to 24, of any bytes, in 01's order: the first whose condition holds; 0 stands for an answer that is no refusal
+  pub part : (b : List ℕ) (p : Part) → numberIn (locateOf b p) ≡ firstOf (partRefusals b p)
+  pub event : (b : List ℕ) (n : ℕ) → eventNumber (directOf b n) ≡ firstOf (directRefusals b n)
+  pub ifftEvent : (b : List ℕ) (n : ℕ) → eventNumber (eventOf b n) ≡ firstOf (ifftRefusals b n 5 85)
+  pub ifftItem : (b : List ℕ) (n : ℕ) → itemNumber (itemOf b n) ≡ firstOf (ifftRefusals b n 6 64)
+  -- a refused part is handed back empty, and a located one is not empty
+  pub empty : (b : List ℕ) (p : Part) (r : Refusal) → locateOf b p ≡ located.Refused r → partOf b p ≡ []
+  pub filled : (b : List ℕ) (p : Part) (at n : ℕ) → locateOf b p ≡ located.At at n → (0 < n) × (length (partOf b p) ≡ n)
