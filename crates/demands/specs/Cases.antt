@@ -1,0 +1,102 @@
+-- The bench cases a to l of 01, as one table.
+-- Assumes nothing.
+use mathlib.Core.Path.{_≡_}
+use mathlib.Core.Bool.{Bool, true, false}
+use mathlib.Core.List.{List, [], _∷_, _++_}
+use Prim.Native.Nat.{ℕ}
+use lib.IntN.{ℤ, pos, negsuc}
+use lib.ListN.{getD, replicate}
+use Rattle.judge.specs.declared.Refusal.the-variants.{RelayOff, Disabled, StrayWord, RelayBits, WrongCheck, WrongCount}
+use Rattle.judge.specs.Refusals.{numberOf}
+use Rattle.rig.specs.declared.Rig.{Rig}
+use Rattle.rig.specs.declared.Answer.the-variants.{Accepted, Waiting, Refused}
+use Rattle.rig.specs.declared.Reply.{Reply}
+use Rattle.rig.specs.declared.Reply.the-variants.{Plain, Swallowed, Dropped}
+use Rattle.rig.specs.declared.Taken.{Taken}
+use Rattle.rig.specs.Words.{takeOf}
+use Rattle.rig.specs.Replies.{refusalsOf}
+use Rattle.rig.specs.Power.{startRig}
+use Rattle.bench.specs.Bench.{nextFrame}
+use Rattle.volts.specs.Volts.{biasOf}
+use Rattle.event.specs.Ifft.{itemAt}
+
+-- the rig after some words from the start, and the reply to one word more
+unfoldable pub sentTo : Rig → List ℕ → Rig
+sentTo r [] = r
+sentTo r (w ∷ ws) = sentTo (takeOf r w .rig) ws
+
+abbrev pub after : List ℕ → Rig
+after ws = sentTo startRig ws
+
+pub data Case : Type 0 where
+  -- after the words the last word gets this reply, which gives these refusals
+  reply : List ℕ → ℕ → Reply → List ℕ → Case
+  -- after the words the byte of the next frame is this
+  byte : List ℕ → ℕ → ℕ → Case
+  -- after the words the last check, the limit, the invalid count is this
+  check : List ℕ → ℕ → Case
+  limit : List ℕ → ℕ → Case
+  count : List ℕ → ℕ → Case
+  -- the bias byte is so many 256ths of a volt
+  volts : ℕ → ℤ → Case
+  -- a matrix item whose second word has these two bytes is good, or bad
+  item : ℕ → ℕ → Bool → Case
+
+abbrev pub Holds : Case → Type 0
+Holds (reply ws w r ns) = (takeOf (after ws) w .reply ≡ r) × (refusalsOf r ≡ ns)
+Holds (byte ws k b) = getD (nextFrame (after ws)) k 0 ≡ b
+Holds (check ws k) = after ws .check ≡ k
+Holds (limit ws n) = after ws .core .supply .limit ≡ n
+Holds (count ws n) = after ws .faults .count ≡ n
+Holds (volts d z) = biasOf d ≡ z
+Holds (item x y g) = itemAt (0 ∷ 0 ∷ x ∷ y ∷ []) 0 .good ≡ g
+
+-- the energy window, the direction window
+abbrev pub blockA : List ℕ
+blockA = 0x6402 ∷ 0xA401 ∷ 0xA400 ∷ []
+
+abbrev pub blockC : List ℕ
+blockC = 0x6302 ∷ 0xA303 ∷ 0xA313 ∷ []
+
+abbrev pub cases : List Case
+cases =
+    -- a. 6402 A401 A400 E415: accepted; byte 10 is 01h
+    reply blockA 0xE415 (Plain Accepted) []
+    ∷ byte (blockA ++ (0xE415 ∷ [])) 10 0x01
+    -- b. the same ending E407: 0Bh, last check 15h
+    ∷ reply blockA 0xE407 (Plain (Refused WrongCheck)) (0x0B ∷ [])
+    ∷ check (blockA ++ (0xE407 ∷ [])) 0x15
+    -- c. 6302 A303 A313 E346: byte 8 is 09h, byte 9 8Ch
+    ∷ byte (blockC ++ (0xE346 ∷ [])) 8 0x09
+    ∷ byte (blockC ++ (0xE346 ∷ [])) 9 0x8C
+    -- d. 0822: 0Bh
+    ∷ reply [] 0x0822 (Plain (Refused RelayBits)) (0x0B ∷ [])
+    -- e. 2805 at start: 04h
+    ∷ reply [] 0x2805 (Plain (Refused RelayOff)) (0x04 ∷ [])
+    -- f. relay on, 2805: 05h
+    ∷ reply (0x0802 ∷ []) 0x2805 (Plain (Refused Disabled)) (0x05 ∷ [])
+    -- g. 29FA at start: limit 10
+    ∷ limit (0x29FA ∷ []) 10
+    -- h. count 255, one refusal: 0
+    ∷ count (replicate 255 0x0822) 255
+    ∷ count (replicate 255 0x0822 ++ (0x0822 ∷ [])) 0
+    -- i. bias 00h: 138.5 V; FFh: -35179/256
+    ∷ volts 0x00 (pos 35456)
+    ∷ volts 0xFF (negsuc 35178)
+    -- j. 6402 then 0802: 03h, then accepted
+    ∷ reply (0x6402 ∷ []) 0x0802 (Dropped Accepted) (0x03 ∷ [])
+    -- k. 4450: 0Eh; 444F waits
+    ∷ reply [] 0x4450 (Plain (Refused WrongCount)) (0x0E ∷ [])
+    ∷ reply [] 0x444F (Plain Waiting) []
+    -- l. second word 8004h good, 8000h bad
+    ∷ item 0x80 0x04 true
+    ∷ item 0x80 0x00 false
+    ∷ []
+
+-- every case of the table holds
+abbrev pub Every : List Case → Type 0
+Every [] = Unit {0}
+Every (c ∷ cs) = Holds c × Every cs
+
+abbrev pub AllCases : Type 0
+AllCases = Every cases

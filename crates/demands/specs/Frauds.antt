@@ -1,0 +1,91 @@
+-- The five frauds of 01 ("How tight each promise is"), each written as a rig or a desk, and which demand catches it.
+-- Assumes nothing.
+use mathlib.Core.Path.{_≡_}
+use mathlib.Core.Bool.{Bool, true, false}
+use mathlib.Core.List.{List, [], _∷_}
+use Prim.Native.Nat.{ℕ}
+use lib.ListN.{getD}
+use Rattle.base.specs.Pick.{pick}
+use Rattle.frame.specs.declared.Item.{Item}
+use Rattle.frame.specs.Items.{rowOf}
+use Rattle.desk.specs.declared.Desk.{Desk}
+use Rattle.desk.specs.declared.Cell.{Cell}
+use Rattle.desk.specs.declared.Shown.{Shown}
+use Rattle.desk.specs.declared.Shown.the-variants.{Unknown, Known}
+use Rattle.desk.specs.declared.Answer.the-variants.{Heard}
+use Rattle.desk.specs.declared.Received.{Received}
+use Rattle.desk.specs.Desk.{bornAt, freshDesk, slotOf, missedOf, shows}
+use Rattle.judge.specs.declared.Refusal.{Refusal}
+use Rattle.rig.specs.declared.Rig.{Rig}
+use Rattle.rig.specs.declared.Answer.the-variants as answer
+use Rattle.rig.specs.declared.Reply.the-variants.{Plain}
+use Rattle.rig.specs.declared.Taken.{Taken}
+use Rattle.rig.specs.Words.{withFaults, takeOf}
+use Rattle.demands.specs.World.{Outfit}
+use Rattle.demands.specs.Demand2.{Demand2For}
+use Rattle.demands.specs.Demand3.{Demand3For}
+use Rattle.demands.specs.One.{deskOf, rigOf}
+
+abbrev pub ours-look : Desk → Item → Shown
+ours-look d item = shows d (rowOf item)
+
+-- 1. a rig that refuses everything, whatever its grounds
+abbrev pub RefusesEverything : (Rig → ℕ → Taken) → Type 0
+RefusesEverything take = (r : Rig) (w : ℕ) → (why : Refusal) × (take r w .reply ≡ Plain (answer.Refused why))
+
+-- or answers every word alike
+abbrev pub AnswersAlike : (Rig → ℕ → Taken) → Type 0
+AnswersAlike take = (r q : Rig) (v w : ℕ) → take r v .reply ≡ take q w .reply
+
+-- 2. a desk that does nothing
+abbrev pub idler : Outfit
+idler = deskOf freshDesk (λ d f. record { answer = Heard; desk = d }) (λ d. d) ours-look
+
+-- 3. a desk that blanks at a miss
+abbrev pub blanker : Outfit
+blanker = deskOf freshDesk slotOf (λ d. freshDesk) ours-look
+
+-- or holds back what came: once it knows the bias, it lets nothing new in
+abbrev pub isKnown : Shown → Bool
+isKnown Unknown = false
+isKnown (Known v a) = true
+
+abbrev pub aged : Desk → Received
+aged d = record { answer = Heard; desk = missedOf d }
+
+abbrev pub hoarder : Outfit
+hoarder = deskOf freshDesk (λ d f. pick (isKnown (shows d 12)) (aged d) (slotOf d f)) missedOf ours-look
+
+-- 4. a desk that reads the first round, until every item is known, and then only pretends
+abbrev pub allKnown : List Cell → Bool
+allKnown [] = true
+allKnown (c ∷ cs) = pick (isKnown (c .shown)) (allKnown cs) false
+
+abbrev pub pretender : Outfit
+pretender = deskOf freshDesk (λ d f. pick (allKnown (d .cells)) (aged d) (slotOf d f)) missedOf ours-look
+
+-- 5. made-up ages: everything known is shown as new
+abbrev pub flatterer : Outfit
+flatterer = deskOf freshDesk slotOf missedOf (λ d item. bornAt 0 (ours-look d item))
+
+-- or made-up invalid counts: always 0
+abbrev pub uncounted : Rig → ℕ → Taken
+uncounted r w =
+    let t = takeOf r w in
+    record { rig = withFaults (t .rig) (record { error = t .rig .faults .error; last = t .rig .faults .last; count = 0 }); reply = t .reply }
+
+-- which demand catches each
+pub record Caught : Type 0 where
+  -- demand 2
+  pub refuses : (take : Rig → ℕ → Taken) → RefusesEverything take → Demand2For (rigOf take) → ⊥
+  pub alike : (take : Rig → ℕ → Taken) → AnswersAlike take → Demand2For (rigOf take) → ⊥
+  pub counts : Demand2For (rigOf uncounted) → ⊥
+  -- demand 3: the 35 slots
+  pub nothing : Demand3For idler → ⊥
+  -- demand 3: the latest is shown
+  pub blanks : Demand3For blanker → ⊥
+  pub holds : Demand3For hoarder → ⊥
+  -- demand 3: the run is any length
+  pub pretends : Demand3For pretender → ⊥
+  -- demand 3: the true age
+  pub ages : Demand3For flatterer → ⊥
