@@ -21,7 +21,7 @@ use Rattle.rig.specs.declared.Reply.{Reply}
 use Rattle.rig.specs.declared.Reply.the-variants.{Plain, Swallowed, Dropped}
 use Rattle.rig.specs.declared.Judgement.{Judgement}
 use Rattle.rig.specs.declared.Taken.{Taken}
-use Rattle.rig.specs.Words.{highOf, lowOf, nothingPending, newBlock, oneMore, settledOf, refusedOf, checkOf}
+use Rattle.rig.specs.Words.{highOf, nothingPending, newBlock, oneMore, settledOf, refusedOf, checkOf}
 use Rattle.rig.specs.Replies.{refusalsOf}
 use Rattle.laws.specs.Replies.{booked, bookedDrop, After}
 use Rattle.laws.specs.Runs.{named, latestError, latestCode}

@@ -1,7 +1,6 @@
 -- One walk of the command table: every verdict keeps the bounds of the core. The supply's part is the supply's own law.
 -- Assumes nothing.
 use Prim.Native.Nat.{ℕ, _%_, _<_, _≤_}
-use mathlib.Core.Path.{_≡_}
 use mathlib.Core.List.{List, [], _∷_}
 use native.Mathlib.Omega.{arith}
 use lib.Dec.{eqb}

@@ -2,11 +2,10 @@
 -- Assumes nothing.
 use Prim.Native.Nat.{ℕ, _≤_}
 use mathlib.Core.Path.{_≡_, refl, ap, sym, _∙_}
-use mathlib.Core.Bool.{Bool, true, false}
+use mathlib.Core.Bool.{Bool, true}
 use native.Mathlib.Omega.{arith}
 use Rattle.base.specs.Pick.{pick}
 use Rattle.judge.specs.declared.Core.{Core}
-use Rattle.judge.specs.declared.Verdict.{Verdict}
 use Rattle.judge.specs.declared.Verdict.the-variants.{Apply, Deny}
 use Rattle.judge.specs.declared.Refusal.{Refusal}
 use Rattle.judge.specs.declared.Refusal.the-variants.{RelayOff, Disabled, OverLimit, StrayWord, RelayBits, WrongCheck, Unsettled, OutOfRange, WrongCount, UnknownCode}
@@ -16,16 +15,14 @@ use Rattle.rig.specs.declared.Kind.the-variants.{Single, Head, Data, End}
 use Rattle.rig.specs.declared.Faults.{Faults}
 use Rattle.rig.specs.declared.Pending.{Pending}
 use Rattle.rig.specs.declared.Rig.{Rig}
-use Rattle.rig.specs.declared.Answer.{Answer}
 use Rattle.rig.specs.declared.Answer.the-variants.{Accepted, Waiting, Refused}
 use Rattle.rig.specs.declared.Reply.{Reply}
 use Rattle.rig.specs.declared.Reply.the-variants.{Plain, Swallowed, Dropped}
-use Rattle.rig.specs.declared.Judgement.{Judgement}
 use Rattle.rig.specs.declared.Taken.{Taken}
-use Rattle.rig.specs.Words.{highOf, lowOf, kindOf, checkOf, settledOf, refusedOf, freshOf, plain, afterDrop, dropped, droppedOf, pendingOf, takeOf}
+use Rattle.rig.specs.Words.{highOf, lowOf, kindOf, checkOf, settledOf, refusedOf, freshOf, afterDrop, dropped, droppedOf, pendingOf, takeOf}
 use Rattle.rig.specs.Replies.{refusalsOf}
-use Rattle.laws.specs.Replies.{After, Apart, judgedAfresh, afterwards, Never, closing, ReplyLaws}
-use Rattle.laws.proofs.Words.{takes, Fresh, judged, begun, Case, idle, kept, closed, swallowed, again, case}
+use Rattle.laws.specs.Replies.{After, Apart, judgedAfresh, afterwards, Never, ReplyLaws}
+use Rattle.laws.proofs.Words.{takes, judged, begun, Case, idle, kept, closed, swallowed, again, case}
 
 -- a rig in which nothing but core, faults, pending block and last check may differ
 alike : (r : Rig) (c : Core) (f : Faults) (p : Pending) (k : ℕ)

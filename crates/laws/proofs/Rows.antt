@@ -1,13 +1,12 @@
 -- The command table row by row (specs/Rows). A row's one verdict is what its command's definition gives; that it is alone is the row's own table
 -- read the other way. The words of a row are put to the decoder's rule by arithmetic. Assumes nothing.
-use Prim.Native.Nat.{ℕ, _+_, _*_, _/_, _%_, _<_, _≤_}
+use Prim.Native.Nat.{ℕ, _/_, _<_, _≤_}
 use mathlib.Core.Path.{_≡_, refl, ap, sym, _∙_}
 use mathlib.Core.Bool.{Bool, true, false, _&&_}
 use mathlib.Core.Logic.{_↔_}
 use native.Mathlib.Omega.{arith}
-use lib.Dec.{eqb, ltb}
+use lib.Dec.{eqb}
 use borrow.Author.Tests.{eqb-true, eqb-false, eq-eqb, ne-eqb, lt-ltb, le-ltb}
-use Rattle.base.specs.Pick.{pick}
 use Rattle.base.proofs.Cases.{split}
 use Rattle.supply.specs.declared.Supply.{Supply}
 use Rattle.supply.specs.declared.Change.{Change}
@@ -17,7 +16,7 @@ use Rattle.supply.proofs.When.{relayed-when, targeted-when, limited-when, switc
 use Rattle.crc.specs.Judged.{judgeOf}
 use Rattle.judge.specs.declared.Core.{Core}
 use Rattle.judge.specs.declared.Verdict.{Verdict}
-use Rattle.judge.specs.declared.Verdict.the-variants.{Apply, Deny}
+use Rattle.judge.specs.declared.Verdict.the-variants.{Deny}
 use Rattle.judge.specs.declared.Refusal.the-variants.{StrayWord, WrongCount, UnknownCode}
 use Rattle.judge.specs.Commands.{carried, ielCmd, maskCmd, modeCmd, singleOf, countedOf, blockOf}
 use Rattle.rig.specs.declared.Kind.{Kind}
@@ -26,8 +25,7 @@ use Rattle.rig.specs.declared.Pending.{Pending}
 use Rattle.rig.specs.declared.Rig.{Rig}
 use Rattle.rig.specs.declared.Answer.the-variants.{Waiting}
 use Rattle.rig.specs.declared.Reply.the-variants.{Plain, Swallowed}
-use Rattle.rig.specs.declared.Taken.{Taken}
-use Rattle.rig.specs.Words.{highOf, lowOf, kindOf, codeOf, keeps, closes, withPending, withCheck, nothingPending, newBlock, oneMore, checkOf, dropped, plain, settledOf, headOf, freshOf, verdictOf, closedOf, droppedOf, pendingOf, takeOf}
+use Rattle.rig.specs.Words.{highOf, lowOf, kindOf, codeOf, keeps, closes, withPending, newBlock, oneMore, checkOf, dropped, plain, settledOf, headOf, freshOf, verdictOf, closedOf, droppedOf, pendingOf, takeOf}
 use Rattle.laws.specs.Replies.{isEnd, closing}
 use Rattle.laws.specs.Rows.{single, Idle, ExactlyOne, SupplyRow, SettingRow, IelWhen, MaskWhen, ModeWhen, serial, parallel, other, Unlisted, ClosedWhen, wrongCheck, unknown, wrongCount20, wrongCount23, wrongCount24, multiplexer, direction, energy, RowLaws}
 use Rattle.laws.proofs.Tests.{by-test, and-left, and-right}

@@ -1,6 +1,6 @@
 -- What every run keeps (specs/Runs): one invariant of the rig and its ledger, kept by each event; a run is an induction over its events.
 -- Assumes nothing.
-use Prim.Native.Nat.{ℕ, zero, suc, _+_, _%_, _<_, _≤_}
+use Prim.Native.Nat.{ℕ, zero, suc, _%_, _<_, _≤_}
 use mathlib.Core.Path.{_≡_, refl, ap, sym, subst, _∙_}
 use mathlib.Core.Bool.{Bool, true, false}
 use mathlib.Core.List.{List, [], _∷_}
@@ -9,6 +9,7 @@ use native.Mathlib.Nat.{not-suc-le-zero}
 use native.Mathlib.Decide.{ℕ-discrete}
 use lib.Dec.{eqb}
 use Rattle.base.specs.Pick.{pick}
+use Rattle.supply.proofs.Ramp.{spin-moves}
 use Rattle.supply.proofs.Kept.{stepped-safe, stepped-quiet}
 use Rattle.frame.specs.Items.{heldAt}
 use Rattle.frame.specs.Read.{remOf}
@@ -23,10 +24,9 @@ use Rattle.rig.specs.Frames.{heldOf, bit, nextLatch}
 use Rattle.laws.specs.Replies.{closing}
 use Rattle.laws.specs.Runs.{FitsPanel, Event, word, spin, set, cut, frame, ours, after, run, Ledger, blank, entered, ledger, reached, given, Bounds, RunLaws}
 use Rattle.laws.proofs.Tests.{by-test}
-use Rattle.laws.proofs.Commands.{CoreFits}
 use Rattle.laws.proofs.Words.{case}
 use Rattle.laws.proofs.Replies.{reply-laws}
-use Rattle.laws.proofs.Bounds.{PendingFits, nothing-fits, check-small, Fits, word-fits, Told, told}
+use Rattle.laws.proofs.Bounds.{nothing-fits, check-small, Fits, word-fits, Told, told}
 
 record PanelFits (p : Panel) : Type 0 where
   bias : p .bias < 0x100
@@ -199,5 +199,6 @@ run-laws =
       check = λ es. always es .check;
       bounds = λ es. bounded (always es);
       widths = λ es. widths (reached ours es) (bounded (always es));
+      spin = λ r. record { supply = spin-moves (r .core .supply); edbs = refl; settings = refl; faults = refl; pending = refl; check = refl; panel = refl; sending = refl };
       cut = λ r. refl;
     }

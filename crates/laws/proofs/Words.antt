@@ -9,7 +9,7 @@ use Rattle.base.specs.Pick.{pick}
 use Rattle.crc.specs.Laws.{Bytes}
 use Rattle.crc.specs.Judged.{judgeOf}
 use Rattle.judge.specs.declared.Verdict.{Verdict}
-use Rattle.judge.specs.declared.Verdict.the-variants.{Apply, Deny}
+use Rattle.judge.specs.declared.Verdict.the-variants.{Deny}
 use Rattle.judge.specs.declared.Refusal.the-variants.{StrayWord, WrongCount}
 use Rattle.judge.specs.Commands.{singleOf}
 use Rattle.rig.specs.declared.Kind.{Kind}

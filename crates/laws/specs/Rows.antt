@@ -1,7 +1,7 @@
 -- The command table, row by row, as a reader checks it: each row lists its verdicts with the exact ground of each, in the order of the refusals.
 -- Keeps 01 "Command words": its table, and the paragraphs on words with nothing pending and on pending blocks. Assumes nothing.
 use mathlib.Core.Path.{_≡_}
-use mathlib.Core.Bool.{Bool, true, false}
+use mathlib.Core.Bool.{true, false}
 use Prim.Native.Nat.{ℕ, _+_, _*_, _/_, _%_, _<_, _≤_}
 use lib.Dec.{eqb}
 use lib.ListN.{getD}
@@ -13,7 +13,7 @@ use Rattle.judge.specs.declared.Verdict.{Verdict}
 use Rattle.judge.specs.declared.Verdict.the-variants.{Apply, Deny}
 use Rattle.judge.specs.declared.Refusal.the-variants.{StrayWord, WrongCheck, OutOfRange, WrongCount, UnknownCode}
 use Rattle.judge.specs.Commands.{carried, withParallel, withMask, withIel, muxSet, directionSet, energySet}
-use Rattle.rig.specs.declared.Kind.the-variants.{Single, Head, Data, End}
+use Rattle.rig.specs.declared.Kind.the-variants.{Head, Data, End}
 use Rattle.rig.specs.declared.Pending.{Pending}
 use Rattle.rig.specs.declared.Rig.{Rig}
 use Rattle.rig.specs.declared.Answer.the-variants.{Waiting}

@@ -1,23 +1,20 @@
 -- Runs of a rig from the start: any words, spins, settings, power cuts and frames, in any order and number; and what every run keeps.
 -- Keeps 01 "Command words" (the counts and codes), "Spins and power", and the widths of "The 40-byte frame". Assumes nothing.
 use mathlib.Core.Path.{_≡_}
-use mathlib.Core.Bool.{Bool, true, false}
+use mathlib.Core.Bool.{false}
 use mathlib.Core.List.{List, [], _∷_}
-use Prim.Native.Nat.{ℕ, suc, _+_, _%_, _<_, _≤_}
+use Prim.Native.Nat.{ℕ, _+_, _%_, _<_, _≤_}
 use lib.ListN.{length}
 use Rattle.base.specs.Pick.{pick}
+use Rattle.base.specs.Counts.{spinMore}
 use Rattle.crc.specs.Laws.{Bytes}
 use Rattle.frame.specs.Items.{heldAt}
 use Rattle.frame.specs.Read.{remOf}
 use Rattle.judge.specs.Refusals.{numberOf}
-use Rattle.supply.specs.declared.Supply.{Supply}
-use Rattle.judge.specs.declared.Sensor.{Sensor}
-use Rattle.rig.specs.declared.Faults.{Faults}
-use Rattle.rig.specs.declared.Pending.{Pending}
+use Rattle.supply.specs.Laws.{SpinMoves}
 use Rattle.rig.specs.declared.PanelSetting.{PanelSetting}
 use Rattle.rig.specs.declared.PanelSetting.the-variants.{Bias, Ground, FreeTime, Flaps}
 use Rattle.rig.specs.declared.Rig.{Rig}
-use Rattle.rig.specs.declared.Answer.{Answer}
 use Rattle.rig.specs.declared.Answer.the-variants.{Accepted, Waiting, Refused}
 use Rattle.rig.specs.declared.Reply.{Reply}
 use Rattle.rig.specs.declared.Reply.the-variants.{Plain, Swallowed, Dropped}
@@ -164,6 +161,18 @@ pub record Bounds (r : Rig) : Type 0 where
   pub latch : r .sending .latch < 0x100000000
   pub edbs : r .edbs .0 < 0x100000000
 
+-- the rig q after a spin of the rig r: the supply's level goes one towards its target if relay and stepping are on, the counter adds one;
+-- nothing else moves
+pub record Spun (r q : Rig) : Type 0 where
+  pub supply : SpinMoves (r .core .supply) (q .core .supply)
+  pub edbs : q .edbs ≡ spinMore (r .edbs)
+  pub settings : q .core .settings ≡ r .core .settings
+  pub faults : q .faults ≡ r .faults
+  pub pending : q .pending ≡ r .pending
+  pub check : q .check ≡ r .check
+  pub panel : q .panel ≡ r .panel
+  pub sending : q .sending ≡ r .sending
+
 -- what every run keeps, of the functions of any rig
 pub record RunLaws (m : Machine) : Type 0 where
   -- the invalid count is the number of refusals given since the last power cut, modulo 256
@@ -179,5 +188,6 @@ pub record RunLaws (m : Machine) : Type 0 where
   pub bounds : (es : List Event) → Bounds (reached m es)
   -- what a frame shows of each plain item fits the item's width, so that nothing is cut off
   pub widths : (es : List Event) (k : ℕ) → k < 25 → heldAt (heldOf (reached m es)) k < remOf k
-  -- a power cut returns every rig to the start
+  -- a spin moves every rig so, and a power cut returns it to the start
+  pub spin : (r : Rig) → Spun r (m .spin r)
   pub cut : (r : Rig) → m .cut r ≡ m .start
