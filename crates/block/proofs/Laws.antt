@@ -19,7 +19,7 @@ use Rattle.block.specs.declared.Part.{Part}
 use Rattle.block.specs.declared.Part.the-variants.{Marker, Index, Descriptor1, Calibration, MSigns, Sgl0, DirectEvents, HSpct, ISpct, Sgl1, Sgl2, Sgl3, IPad, I3dd, Mtrx, Descriptor2, EPad, E3dd, M}
 use Rattle.block.specs.declared.Row.{Row}
 use Rattle.block.specs.declared.Located.the-variants.{At, Refused}
-use Rattle.block.specs.Layout.{nm, bm1, inner, bit, dumped, layoutOf}
+use Rattle.block.specs.Layout.{nm, bm1, inner, bit, first, dumped, layoutOf}
 use Rattle.block.specs.Parts.{rowOf, parts, rankOf, hidden, found, inLayout, locateOf, partOf}
 use Rattle.block.specs.Steps.{hides}
 
@@ -118,60 +118,60 @@ all-fit p =
     let y = leb (rowOf p .2 + rowOf p .3) 2304 in
     (leb→le _ _ (both-left x y t), leb→le _ _ (both-right x y t))
 
--- the length that a layout says
-abbrev long : Layout → ℕ → Type 0
-long (Bad r) n = Unit {0}
-long (Nm d1 d2) n = n ≡ 512
-long (Bm1 d1 d2) n = n ≡ 2304
+-- what a layout tells of its block: the length, and descriptor 1
+abbrev pub told : Layout → List ℕ → Type 0
+told (Bad r) b = Unit {0}
+told (Nm d1 d2) b = (length b ≡ 512) × (d1 ≡ first b)
+told (Bm1 d1 d2) b = (length b ≡ 2304) × (d1 ≡ first b)
 
-pub layout-long : (b : List ℕ) → long (layoutOf b) (length b)
+pub layout-told : (b : List ℕ) → told (layoutOf b) b
 unfolding layoutOf
-layout-long b =
+layout-told b =
     split (ltb (length b) 3)
     (λ s. simp s tt)
     (λ s. split (nm b)
-    (λ m. split (eqb (length b) 512) (λ l. simp (s, m, l) (eqb-true _ _ l)) (λ l. simp (s, m, l) tt))
+    (λ m. split (eqb (length b) 512) (λ l. simp (s, m, l) (eqb-true _ _ l, refl)) (λ l. simp (s, m, l) tt))
     (λ m. split (bm1 b)
     (λ n. split (eqb (length b) 2304)
-    (λ l. split (dumped b || inner b) (λ i. simp (s, m, n, l, i) (eqb-true _ _ l)) (λ i. simp (s, m, n, l, i) tt))
+    (λ l. split (dumped b || inner b) (λ i. simp (s, m, n, l, i) (eqb-true _ _ l, refl)) (λ i. simp (s, m, n, l, i) tt))
     (λ l. simp (s, m, n, l) tt))
     (λ n. simp (s, m, n) tt)))
 
-pub nm-length : (b : List ℕ) (d1 d2 : ℕ) → layoutOf b ≡ Nm d1 d2 → length b ≡ 512
-nm-length b d1 d2 e = rw e at (layout-long b)
+nm-told : (b : List ℕ) (d1 d2 : ℕ) → layoutOf b ≡ Nm d1 d2 → (length b ≡ 512) × (d1 ≡ first b)
+nm-told b d1 d2 e = rw e at (layout-told b)
 
-pub bm1-length : (b : List ℕ) (d1 d2 : ℕ) → layoutOf b ≡ Bm1 d1 d2 → length b ≡ 2304
-bm1-length b d1 d2 e = rw e at (layout-long b)
+pub nm-length : (b : List ℕ) (d1 d2 : ℕ) → layoutOf b ≡ Nm d1 d2 → length b ≡ 512
+nm-length b d1 d2 e = nm-told b d1 d2 e .0
 
 -- what was found is the row's own place, and not empty
 pub refused-at : (r : Refusal) (a n : ℕ) → Refused r ≡ At a n → ⊥
 refused-at r a n h = let z : _≡_ {A = ℕ} 0 1 = cc in omega arith
 
-pub found-is : (s h : Bool) (x y a n : ℕ) → pick s (Refused Beyond) (pick h (Refused Hidden) (At x y)) ≡ At a n → (s ≡ false) × (x ≡ a) × (y ≡ n)
+pub found-is : (s h : Bool) (x y a n : ℕ) → pick s (Refused Beyond) (pick h (Refused Hidden) (At x y)) ≡ At a n → (s ≡ false) × (h ≡ false) × (x ≡ a) × (y ≡ n)
 found-is true h x y a n k = absurd (refused-at Beyond a n k)
 found-is false true x y a n k = absurd (refused-at Hidden a n k)
-found-is false false x y a n k = (refl, cc, cc)
+found-is false false x y a n k = (refl, refl, cc, cc)
 
 some : (n : ℕ) → eqb n 0 ≡ false → 0 < n
 some zero e = absurd (eqb-false 0 0 e refl)
 some (suc n) e = omega arith
 
-within : (l : Layout) (p : Part) (k a n : ℕ) → long l k → inLayout l p ≡ At a n → (0 < n) × (a + n ≤ k)
-within (Bad r) p k a n h e = absurd (refused-at r a n e)
-within (Nm d1 d2) p k a n h e =
+within : (l : Layout) (b : List ℕ) (p : Part) (a n : ℕ) → told l b → inLayout l p ≡ At a n → (0 < n) × (a + n ≤ length b)
+within (Bad r) b p a n t e = absurd (refused-at r a n e)
+within (Nm d1 d2) b p a n t e =
     let f = found-is (eqb (rowOf p .1) 0) (hidden p d1 d2) (rowOf p .0) (rowOf p .1) a n e in
     let s = some (rowOf p .1) (f .0) in
     let w = all-fit p .0 in
-    (omega (arith, f .2), omega (arith, f .1, f .2))
-within (Bm1 d1 d2) p k a n h e =
+    (omega (arith, f .3), omega (arith, f .2, f .3, t .0))
+within (Bm1 d1 d2) b p a n t e =
     let f = found-is (eqb (rowOf p .3) 0) (hidden p d1 d2) (rowOf p .2) (rowOf p .3) a n e in
     let s = some (rowOf p .3) (f .0) in
     let w = all-fit p .1 in
-    (omega (arith, f .2), omega (arith, f .1, f .2))
+    (omega (arith, f .3), omega (arith, f .2, f .3, t .0))
 
 pub located-in : (b : List ℕ) (p : Part) (a n : ℕ) → locateOf b p ≡ At a n → (0 < n) × (a + n ≤ length b)
 unfolding locateOf
-located-in b p a n e = within (layoutOf b) p (length b) a n (layout-long b) e
+located-in b p a n e = within (layoutOf b) b p a n (layout-told b) e
 
 -- so what `part_of` hands back is as long as `locate` says, and it is empty exactly where `locate` refuses
 pub part-length : (b : List ℕ) (p : Part) (a n : ℕ) → locateOf b p ≡ At a n → (0 < n) × (length (partOf b p) ≡ n)

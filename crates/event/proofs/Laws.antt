@@ -25,8 +25,8 @@ use Rattle.event.specs.Ifft.{turn, wrong, countIn, countOf}
 -- the part that holds the events is as long as they are
 sized : (l : Layout) (a k : ℕ) → inLayout l DirectEvents ≡ At a k → k ≡ 3 * eventsIn l
 sized (Bad r) a k e = absurd (refused-at r a k e)
-sized (Nm d1 d2) a k e = let f = found-is (eqb 60 0) (hidden DirectEvents d1 d2) 0x00A 60 a k e in omega (arith, f .2)
-sized (Bm1 d1 d2) a k e = let f = found-is (eqb 318 0) (hidden DirectEvents d1 d2) 0x00A 318 a k e in omega (arith, f .2)
+sized (Nm d1 d2) a k e = let f = found-is (eqb 60 0) (hidden DirectEvents d1 d2) 0x00A 60 a k e in omega (arith, f .3)
+sized (Bm1 d1 d2) a k e = let f = found-is (eqb 318 0) (hidden DirectEvents d1 d2) 0x00A 318 a k e in omega (arith, f .3)
 
 pub events-in : (b : List ℕ) (a k : ℕ) → locateOf b DirectEvents ≡ At a k → a + 3 * eventsIn (layoutOf b) ≤ length b
 unfolding locateOf
