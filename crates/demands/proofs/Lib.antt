@@ -8,4 +8,6 @@ pub mod Demand1
 pub mod Demand2
 pub mod Demand3
 pub mod One
+pub mod Frauds
 pub mod Cases
+pub mod Examples

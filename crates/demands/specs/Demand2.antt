@@ -4,12 +4,9 @@ use mathlib.Core.Path.{_≡_}
 use mathlib.Core.Bool.{true, not}
 use mathlib.Core.List.{List}
 use Prim.Native.Nat.{ℕ, _<_}
-use lib.Dec.{T, eqb}
+use lib.Dec.{T}
 use lib.ListN.{length, getD}
-use Rattle.base.specs.Counts.{spinMore}
-use Rattle.supply.specs.Laws.{SpinMoves}
 use Rattle.judge.specs.Table.{TableLaws}
-use Rattle.judge.specs.Commands.{withSupply}
 use Rattle.volts.specs.declared.Sheet.{Sheet}
 use Rattle.volts.specs.Volts.{Shows}
 use Rattle.frame.specs.Write.{latchOf, frameOf}
@@ -20,32 +17,19 @@ use Rattle.laws.specs.Rows.{RowLaws}
 use Rattle.laws.specs.Runs.{RunLaws}
 use Rattle.block.specs.declared.Part.{Part}
 use Rattle.block.specs.Layout.{dumped}
-use Rattle.block.specs.Parts.{locateOf}
+use Rattle.block.specs.Parts.{locateOf, partOf}
 use Rattle.block.specs.Cover.{holders, nmHeld, bm1Held}
 use Rattle.block.proofs.Unread.{unread}
 use Rattle.event.specs.declared.Direction.{Direction}
 use Rattle.event.specs.Event.{dOf, hasD, directionOf}
 use Rattle.demands.specs.World.{Outfit}
 
--- at a spin the supply takes its step and the long EDB counter one more; nothing else moves
-pub record SpinLaw (spin : Rig → Rig) (r : Rig) : Type 0 where
-  pub supply : SpinMoves (r .core .supply) (spin r .core .supply)
-  pub counter : spin r .edbs ≡ spinMore (r .edbs)
-  pub settings : spin r .core .settings ≡ r .core .settings
-  pub faults : spin r .faults ≡ r .faults
-  pub pending : spin r .pending ≡ r .pending
-  pub check : spin r .check ≡ r .check
-  pub panel : spin r .panel ≡ r .panel
-  pub sending : spin r .sending ≡ r .sending
-
 pub record Demand2For (o : Outfit) : Type 0 where
   -- each row of the command table: accepted exactly if .., and then exactly this moves; heads, data and end words, closed and swallowed blocks
   pub rows : RowLaws (o .rig .take)
   -- the numbers of the refusals, the lists of codes, the bits that are read
   pub table : TableLaws
-  -- a spin
-  pub spin : (r : Rig) → SpinLaw (o .rig .spin) r
-  -- over every run: counts, codes, last check, long EDB counter, the bounds of every field; a power cut returns to the start
+  -- over every run: counts, codes, last check, long EDB counter, the bounds of every field; and for every rig, what a spin and a power cut do
   pub runs : RunLaws (o .rig)
   -- a frame shows what the rig holds as it is built; a spread number is latched at its first frame and written from the latch
   pub frame : (r : Rig) → o .frame r ≡ frameOf (heldOf r) (r .sending .next) (latchOf (heldOf r) (r .sending .next) (r .sending .latch))
@@ -57,7 +41,7 @@ pub record Demand2For (o : Outfit) : Type 0 where
   pub bm1 : (k : ℕ) → k < 2304 → holders k bm1Held ≡ 1
   -- with descriptor 1 bit 2 set neither descriptor 2 nor the inner markers are looked at
   pub dump : (b c : List ℕ) → length b ≡ length c → dumped b ≡ true → ((k : ℕ) → T (not (unread k)) → getD b k 0 ≡ getD c k 0)
-      → (p : Part) → locateOf b p ≡ locateOf c p
+      → (p : Part) → (locateOf b p ≡ locateOf c p) × (partOf b p ≡ partOf c p)
   -- D and its direction: each gives the other back
   pub direction : (d : ℕ) → d < 16 → dOf (directionOf d) ≡ d
   pub back : (x : Direction) → T (hasD x) → directionOf (dOf x) ≡ x

@@ -1,0 +1,122 @@
+-- Each fraud is caught: a rig by one word, a desk by one run after which it shows something else than ours.
+-- Assumes nothing.
+use mathlib.Core.Path.{_≡_, refl, _∙_, sym, ap}
+use mathlib.Core.List.{List, [], _∷_, _++_}
+use Prim.Native.Nat.{ℕ}
+use native.Mathlib.Omega.{arith}
+use lib.ListN.{replicate}
+use Rattle.base.specs.Counts.{frames}
+use Rattle.supply.specs.Rules.{relayed}
+use Rattle.judge.specs.Commands.{carried, singleOf}
+use Rattle.judge.specs.declared.Verdict.{Verdict}
+use Rattle.judge.specs.declared.Verdict.the-variants.{Apply}
+use Rattle.judge.specs.declared.Refusal.the-variants.{StrayWord}
+use Rattle.frame.specs.declared.Item.{Item}
+use Rattle.frame.specs.declared.Item.the-variants.{Bias}
+use Rattle.frame.specs.Write.{quarterOf, groundAt, muxOf, frameOf}
+use Rattle.frame.specs.Read.{allAre, arrivedOf}
+use Rattle.desk.specs.declared.Shown.{Shown}
+use Rattle.desk.specs.declared.Shown.the-variants.{Unknown, Known}
+use Rattle.desk.specs.Desk.{readingOf, halfAfter, cellsAfter, slotOf}
+use Rattle.rig.specs.declared.PanelSetting.the-variants as panel
+use Rattle.rig.specs.declared.Rig.{Rig}
+use Rattle.rig.specs.declared.Answer.the-variants.{Accepted, Refused}
+use Rattle.rig.specs.declared.Reply.the-variants.{Plain}
+use Rattle.rig.specs.declared.Reply.{Reply}
+use Rattle.rig.specs.declared.Taken.{Taken}
+use Rattle.rig.specs.Words.{kindOf, refusedOf, settledOf, freshOf, takeOf}
+use Rattle.rig.specs.Power.{startRig, setOf}
+use Rattle.laws.specs.Rows.{RowLaws}
+use Rattle.laws.specs.Runs as ran
+use Rattle.demands.specs.World.{Outfit, proved, Event, set, arrives, lost, run, after}
+use Rattle.demands.specs.Demand2.{Demand2For}
+use Rattle.demands.specs.Demand3.{Demand3For}
+use Rattle.demands.specs.One.{rigOf}
+use Rattle.demands.specs.Frauds.{RefusesEverything, AnswersAlike, idler, blanker, hoarder, pretender, flatterer, uncounted, Caught}
+use Rattle.demands.proofs.One.{one-desk}
+
+settled : (v c : Verdict) → v ≡ c → settledOf startRig 0x26 v .answer ≡ settledOf startRig 0x26 c .answer
+settled v c e = ap (λ (x : Verdict). settledOf startRig 0x26 x .answer) e
+
+-- a head mask is accepted, and a stray data word refused
+accepts : (take : Rig → ℕ → Taken) → RowLaws take → take startRig 0x2600 .reply ≡ Plain Accepted
+unfolding settledOf
+accepts take a =
+    let x = a .mask26 startRig 0 (omega arith) refl in
+    ap (λ (t : Taken). t .reply) (x .then) ∙ ap Plain (settled (x .one) _ (x .is))
+
+refuses : (take : Rig → ℕ → Taken) → RowLaws take → take startRig 0x8000 .reply ≡ Plain (Refused StrayWord)
+unfolding settledOf kindOf
+refuses take a = ap (λ (t : Taken). t .reply) (a .strayData startRig 0x8000 refl refl)
+
+not-all : (take : Rig → ℕ → Taken) → RefusesEverything take → Demand2For (rigOf take) → ⊥
+not-all take all d =
+    let p = all startRig 0x2600 in
+    let z : _≡_ {A = ℕ} 0 1 = cc (p .1, accepts take (d .rows)) in
+    omega arith
+
+not-alike : (take : Rig → ℕ → Taken) → AnswersAlike take → Demand2For (rigOf take) → ⊥
+not-alike take all d =
+    let z : _≡_ {A = ℕ} 0 1 = cc (all startRig startRig 0x2600 0x8000, accepts take (d .rows), refuses take (d .rows)) in
+    omega arith
+
+-- one refusal, and the made-up count is 0
+not-uncounted : Demand2For (rigOf uncounted) → ⊥
+unfolding ran.run ran.ledger takeOf freshOf settledOf refusedOf kindOf
+not-uncounted d =
+    let e : _≡_ {A = ℕ} 0 1 = d .runs .count (ran.word 0x8000 (omega arith) ∷ []) in
+    omega arith
+
+abbrev valueOf : Shown → ℕ
+valueOf Unknown = 0
+valueOf (Known v a) = v
+
+abbrev ageOf : Shown → ℕ
+ageOf Unknown = 0
+ageOf (Known v a) = a .0
+
+abbrev knownOf : Shown → ℕ
+knownOf Unknown = 0
+knownOf (Known v a) = 1
+
+-- the bias is set to 1 between two frames
+abbrev renewed : List Event
+renewed = set (panel.Bias 1) (omega arith) ∷ arrives ∷ []
+
+-- after 35 whole slots nothing is shown
+not-idler : Demand3For idler → ⊥
+unfolding run
+not-idler d = let e : _≡_ {A = ℕ} 0 1 = ap knownOf (d .round [] Bias .1) in omega arith
+
+-- a frame, a miss, and nothing is shown
+not-blanker : Demand3For blanker → ⊥
+unfolding run slotOf arrivedOf allAre cellsAfter readingOf halfAfter frameOf muxOf quarterOf groundAt
+not-blanker d = let e : _≡_ {A = ℕ} 0 1 = ap knownOf (one-desk _ _ _ _ d (arrives ∷ lost ∷ []) Bias) in omega arith
+
+-- a frame, a new bias, a frame, and the old one is shown
+not-hoarder : Demand3For hoarder → ⊥
+unfolding run slotOf arrivedOf allAre cellsAfter readingOf halfAfter frameOf muxOf quarterOf groundAt setOf
+not-hoarder d = let e : _≡_ {A = ℕ} 0 1 = ap valueOf (one-desk _ _ _ _ d (arrives ∷ renewed) Bias) in omega arith
+
+-- a whole round, a new bias, a frame, and the old one is shown
+not-pretender : Demand3For pretender → ⊥
+unfolding run slotOf arrivedOf allAre cellsAfter readingOf halfAfter frameOf muxOf quarterOf groundAt setOf
+not-pretender d = let e : _≡_ {A = ℕ} 0 1 = ap valueOf (one-desk _ _ _ _ d (replicate 35 arrives ++ renewed) Bias) in omega arith
+
+-- a frame, a miss, and the bias is still shown as new
+not-flatterer : Demand3For flatterer → ⊥
+unfolding run slotOf arrivedOf allAre cellsAfter readingOf halfAfter frameOf muxOf quarterOf groundAt
+not-flatterer d = let e : _≡_ {A = ℕ} 0 1 = ap ageOf (one-desk _ _ _ _ d (arrives ∷ lost ∷ []) Bias) in omega arith
+
+pub caught : Caught
+caught =
+    record {
+      refuses = not-all;
+      alike = not-alike;
+      counts = not-uncounted;
+      nothing = not-idler;
+      blanks = not-blanker;
+      holds = not-hoarder;
+      pretends = not-pretender;
+      ages = not-flatterer;
+    }
