@@ -1,6 +1,6 @@
 -- With descriptor 1 bit 2 set neither descriptor 2 nor the inner markers are looked at: what such a block answers goes by its
 -- length and its first five bytes alone. Assumes nothing.
-use mathlib.Core.Path.{_≡_, refl, sym, _∙_, ap}
+use mathlib.Core.Path.{_≡_, refl, _∙_, ap}
 use mathlib.Core.Bool.{Bool, true, false, not, _||_}
 use mathlib.Core.List.{List}
 use Prim.Native.Nat.{ℕ, _+_, _≤_, _<_}

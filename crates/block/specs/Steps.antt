@@ -11,9 +11,7 @@ use Rattle.block.specs.declared.Layout.{Layout}
 use Rattle.block.specs.declared.Layout.the-variants.{Nm, Bm1, Bad}
 use Rattle.block.specs.declared.Group.{Group}
 use Rattle.block.specs.declared.Group.the-variants.{Open, Whole, Ions, Electrons}
-use Rattle.block.specs.declared.Located.{Located}
 use Rattle.block.specs.Layout.{bit, inner, first, dumped, second}
-use Rattle.block.specs.Parts.{found}
 
 -- what follows an NM marker, and a BM1 marker
 unfoldable pub nmOf : List ℕ → Layout

@@ -1,14 +1,14 @@
 -- The reader of D and the definition of D are each other's inverse, for all 16 values and for every direction that has one.
 -- Assumes nothing.
 use mathlib.Core.Path.{_≡_, refl, ap}
-use mathlib.Core.Bool.{Bool, _&&_}
+use mathlib.Core.Bool.{_&&_}
 use mathlib.Core.List.{List, [], _∷_}
-use Prim.Native.Nat.{ℕ, _+_, _-_, _*_, _/_, _%_, _≤_, _<_}
+use Prim.Native.Nat.{ℕ, _+_, _-_, _*_, _<_}
 use native.Mathlib.Omega.{arith}
 use borrow.Author.Tests.{lt-ltb, le-ltb}
 use lib.Dec.{T, eqb, leb, eqb→eq, leb→le}
 use lib.Ieee.Fits.{and-l, and-r}
-use Rattle.base.proofs.Table.{below, both}
+use Rattle.base.proofs.Table.{below}
 use Rattle.event.specs.declared.Direction.{Direction}
 use Rattle.event.specs.declared.Direction.the-variants.{Head, HeadOnly, Unknown}
 use Rattle.event.specs.Event.{dOf, hasD, directionOf}
