@@ -20,8 +20,8 @@ use Rattle.desk.specs.declared.Shown.{Shown}
 use Rattle.desk.specs.declared.Shown.the-variants.{Unknown}
 use Rattle.desk.specs.declared.Cell.{Cell}
 use Rattle.desk.specs.declared.Desk.{Desk}
-use Rattle.desk.specs.Desk.{bornAt, grownOf, keptAt, plainOf, partly, readingOf, halfAt, halfAfter, cellsAfter, heardOf}
-use Rattle.desk.proofs.Readings.{plain-is, spread-is, half-is}
+use Rattle.desk.specs.Desk.{bornAt, grownOf, keptAt, plainOf, partly, readingOf, halfAfter, cellsAfter, heardOf}
+use Rattle.desk.proofs.Readings.{plain-is, spread-is}
 
 cells-same : (p q : ℕ → Shown) (n : ℕ) (cs : List Cell) → ((k : ℕ) → k < n → p k ≡ q k) → cellsAfter p n cs ≡ cellsAfter q n cs
 unfolding cellsAfter

@@ -1,6 +1,6 @@
 -- What the desk does at a slot, and what it then shows (01, "The 40-byte frame", the paragraph "The desk takes slots").
 -- The rows of the items, what a frame carries and what arrived are those of `frame`. Assumes nothing.
-use mathlib.Core.Bool.{Bool, true, false}
+use mathlib.Core.Bool.{Bool, true}
 use mathlib.Core.List.{List}
 use Prim.Native.Nat.{ℕ, zero, suc, _+_, _*_, _%_}
 use lib.Dec.{eqb, ltb}
@@ -18,7 +18,6 @@ use Rattle.desk.specs.declared.Cell.{Cell}
 use Rattle.desk.specs.declared.Half.{Half}
 use Rattle.desk.specs.declared.Half.the-variants.{Nothing, Part}
 use Rattle.desk.specs.declared.Desk.{Desk}
-use Rattle.desk.specs.declared.Answer.{Answer}
 use Rattle.desk.specs.declared.Answer.the-variants.{Heard, Missed, Refused}
 use Rattle.desk.specs.declared.Received.{Received}
 

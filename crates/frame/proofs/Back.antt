@@ -1,7 +1,7 @@
 -- Each plain item that a frame carries reads back from its word, modulo its width.
 -- Assumes nothing.
-use mathlib.Core.Path.{_≡_, refl}
-use Prim.Native.Nat.{ℕ, _+_, _*_, _/_, _%_, _<_}
+use mathlib.Core.Path.{_≡_}
+use Prim.Native.Nat.{ℕ, _%_, _<_}
 use native.Mathlib.Omega.{arith}
 use Rattle.frame.specs.declared.Held.{Held}
 use Rattle.frame.specs.Items.{heldAt}

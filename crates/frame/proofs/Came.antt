@@ -1,6 +1,6 @@
 -- What `arrivedOf` says of the bytes where it says that a frame came whole.
 -- Assumes nothing.
-use mathlib.Core.Path.{_≡_, refl, sym, ap, _∙_}
+use mathlib.Core.Path.{_≡_, refl}
 use mathlib.Core.Bool.{Bool, true, false}
 use mathlib.Core.List.{List}
 use Prim.Native.Nat.{ℕ}
@@ -9,7 +9,6 @@ use lib.Dec.{eqb}
 use lib.ListN.{length, getD}
 use borrow.Author.Tests.{eqb-true}
 use Rattle.base.specs.Pick.{pick}
-use Rattle.frame.specs.declared.Arrived.{Arrived}
 use Rattle.frame.specs.declared.Arrived.the-variants.{Whole, FillC0, FillFF, Refused}
 use Rattle.frame.specs.Items.{numbered}
 use Rattle.frame.specs.Read.{indexOf, allAre, arrivedOf}

@@ -1,6 +1,6 @@
 -- What holds at each number below a bound, from a proof for each of them, one by one.
 -- Assumes nothing.
-use mathlib.Core.Path.{_≡_, subst, sym}
+use mathlib.Core.Path.{subst, sym}
 use Prim.Native.Nat.{ℕ, suc, _<_, _≤_}
 use native.Mathlib.Decide.{ℕ-discrete}
 use native.Mathlib.Omega.{arith}

@@ -1,7 +1,7 @@
 -- The laws of the frame hold.
 -- Assumes nothing.
-use mathlib.Core.Path.{_≡_, refl, sym, ap, _∙_}
-use mathlib.Core.Bool.{Bool, true, false}
+use mathlib.Core.Path.{_≡_, ap, _∙_}
+use mathlib.Core.Bool.{true, false}
 use Prim.Native.Nat.{ℕ, _%_, _<_}
 use native.Mathlib.Nat.{mod-eq-of-lt}
 use native.Mathlib.Omega.{arith}
@@ -11,7 +11,7 @@ use Rattle.frame.specs.declared.Held.{Held}
 use Rattle.frame.specs.declared.Reading.the-variants.{Nothing, Value}
 use Rattle.frame.specs.Items.{heldAt}
 use Rattle.frame.specs.Write.{frameOf}
-use Rattle.frame.specs.Read.{remOf, phaseOf, carries, indexOf, fieldOf, readOf}
+use Rattle.frame.specs.Read.{remOf, phaseOf, carries, indexOf, readOf}
 use Rattle.frame.specs.Laws.{Fits, Laws}
 use Rattle.frame.proofs.Rows.{rounds}
 use Rattle.frame.proofs.Back.{field-back}

@@ -1,18 +1,18 @@
 -- Two frames that differ in unread bits alone give the same readings: each row's word lies under the masks.
 -- Assumes nothing.
 use mathlib.Core.Path.{_≡_, refl, sym, ap, _∙_}
-use mathlib.Core.Bool.{Bool, true, false}
+use mathlib.Core.Bool.{true}
 use mathlib.Core.List.{List}
-use Prim.Native.Nat.{ℕ, _+_, _-_, _*_, _/_, _%_, _^_, _<_}
+use Prim.Native.Nat.{ℕ, _-_, _/_, _%_, _^_, _<_}
 use native.Mathlib.Nat.{mod-mod}
 use native.Mathlib.Omega.{arith}
 use lib.Bits.{bitAnd, and-shr, and-mod, and-mask}
-use lib.Dec.{eqb, ltb}
-use lib.ListN.{length, getD}
+use lib.Dec.{ltb}
+use lib.ListN.{getD}
 use borrow.Author.Tests.{eq-eqb, eqb-true, ltb-true}
-use Rattle.frame.specs.declared.Reading.the-variants.{Nothing, Value}
+use Rattle.frame.specs.declared.Reading.the-variants.{Value}
 use Rattle.frame.specs.Read.{periodOf, phaseOf, carries, indexOf, fieldOf, readOf}
-use Rattle.frame.specs.Laws.{byte39, spreads, mask37, mask38, mask39, masks, Frame, Alike}
+use Rattle.frame.specs.Laws.{byte39, spreads, mask39, masks, Alike}
 use Rattle.frame.proofs.Each.{each, _&_, end}
 use Rattle.frame.proofs.Tells.{pick-same}
 

@@ -1,6 +1,6 @@
 -- The 27 items (01, "The 40-byte frame": the numbers and switches placed in its first paragraph), each in its row, and the refusals' numbers.
 -- Assumes nothing.
-use mathlib.Core.List.{List, [], _∷_}
+use mathlib.Core.List.{[], _∷_}
 use Prim.Native.Nat.{ℕ}
 use lib.Dec.{eqb}
 use lib.ListN.{getD}

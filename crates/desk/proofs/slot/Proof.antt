@@ -1,6 +1,6 @@
 -- `desk::slot` meets its contract: in each arm `slotOf` goes by what arrived.
 -- Assumes nothing.
-use mathlib.Core.Path.{_≡_, sym, _∙_}
+use mathlib.Core.Path.{sym, _∙_}
 use denote.Ref.{now}
 use borrow.Author.Needs.{needs}
 use Rattle.frame.proofs.Came.{came-whole}
