@@ -2,7 +2,6 @@
 -- Keeps 01 whole; the rules are those of `rig` and `desk`. Assumes nothing.
 use Prim.Native.Nat.{ℕ}
 use mathlib.Core.List.{List}
-use lib.ListN.{take, drop}
 use Rattle.frame.specs.declared.Wrote.{Wrote}
 use Rattle.frame.specs.declared.Wrote.the-variants.{Done, Refused}
 use Rattle.frame.specs.Write.{wroteOf, frameOf}
@@ -12,7 +11,7 @@ use Rattle.rig.specs.declared.PanelSetting.{PanelSetting}
 use Rattle.rig.specs.declared.Rig.{Rig}
 use Rattle.rig.specs.Words.{takeOf}
 use Rattle.rig.specs.Power.{startRig, spunOf, setOf, cutOf}
-use Rattle.rig.specs.Frames.{heldOf, nextLatch, sent, builtOf, filledOf}
+use Rattle.rig.specs.Frames.{heldOf, nextLatch, sent, builtOf}
 use Rattle.bench.specs.declared.Bench.{Bench}
 use Rattle.bench.specs.declared.Worded.{Worded}
 use Rattle.bench.specs.declared.Sent.{Sent}

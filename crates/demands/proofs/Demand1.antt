@@ -1,17 +1,17 @@
 -- Demand 1 holds of our rig and desk: the laws of the crates below, gathered.
 -- Assumes nothing.
-use mathlib.Core.Path.{_≡_, refl}
+use mathlib.Core.Path.{_≡_}
 use mathlib.Core.List.{List}
-use Prim.Native.Nat.{ℕ, _+_, _≤_, _<_}
+use Prim.Native.Nat.{ℕ, _+_, _<_}
 use lib.ListN.{length}
-use borrow.Author.Tests.{lt-ltb, le-ltb}
-use Rattle.frame.specs.declared.Wrote.the-variants.{Done, Refused}
+use borrow.Author.Tests.{lt-ltb}
+use Rattle.frame.specs.declared.Wrote.the-variants.{Refused}
 use Rattle.frame.specs.Items.{numbered}
 use Rattle.frame.proofs.Place.{short, room}
 use Rattle.desk.proofs.Laws.{laws as desk-laws}
 use Rattle.rig.specs.declared.Rig.{Rig}
 use Rattle.rig.specs.declared.Built.{Built}
-use Rattle.rig.specs.Frames.{heldOf, nextLatch, builtOf, filledOf}
+use Rattle.rig.specs.Frames.{heldOf, nextLatch, builtOf}
 use Rattle.laws.proofs.Replies.{reply-laws}
 use Rattle.block.proofs.Order.{order}
 use Rattle.block.proofs.Laws.{part-length, part-none}

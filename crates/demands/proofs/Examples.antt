@@ -2,10 +2,8 @@
 -- Assumes nothing.
 use mathlib.Core.Path.{_≡_, refl}
 use mathlib.Core.List.{List, [], _∷_, _++_}
-use Prim.Native.Nat.{ℕ}
 use lib.ListN.{replicate}
 use Rattle.base.specs.Counts.{frames}
-use Rattle.frame.specs.declared.Item.{Item}
 use Rattle.frame.specs.declared.Item.the-variants.{LongCounter}
 use Rattle.frame.specs.Write.{quarterOf, groundAt, muxOf, frameOf}
 use Rattle.frame.specs.Read.{allAre, arrivedOf}

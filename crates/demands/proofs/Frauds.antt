@@ -1,17 +1,12 @@
 -- Each fraud is caught: a rig by one word, a desk by one run after which it shows something else than ours.
 -- Assumes nothing.
-use mathlib.Core.Path.{_≡_, refl, _∙_, sym, ap}
+use mathlib.Core.Path.{_≡_, refl, _∙_, ap}
 use mathlib.Core.List.{List, [], _∷_, _++_}
 use Prim.Native.Nat.{ℕ}
 use native.Mathlib.Omega.{arith}
 use lib.ListN.{replicate}
-use Rattle.base.specs.Counts.{frames}
-use Rattle.supply.specs.Rules.{relayed}
-use Rattle.judge.specs.Commands.{carried, singleOf}
 use Rattle.judge.specs.declared.Verdict.{Verdict}
-use Rattle.judge.specs.declared.Verdict.the-variants.{Apply}
 use Rattle.judge.specs.declared.Refusal.the-variants.{StrayWord}
-use Rattle.frame.specs.declared.Item.{Item}
 use Rattle.frame.specs.declared.Item.the-variants.{Bias}
 use Rattle.frame.specs.Write.{quarterOf, groundAt, muxOf, frameOf}
 use Rattle.frame.specs.Read.{allAre, arrivedOf}
@@ -22,13 +17,12 @@ use Rattle.rig.specs.declared.PanelSetting.the-variants as panel
 use Rattle.rig.specs.declared.Rig.{Rig}
 use Rattle.rig.specs.declared.Answer.the-variants.{Accepted, Refused}
 use Rattle.rig.specs.declared.Reply.the-variants.{Plain}
-use Rattle.rig.specs.declared.Reply.{Reply}
 use Rattle.rig.specs.declared.Taken.{Taken}
 use Rattle.rig.specs.Words.{kindOf, refusedOf, settledOf, freshOf, takeOf}
 use Rattle.rig.specs.Power.{startRig, setOf}
 use Rattle.laws.specs.Rows.{RowLaws}
 use Rattle.laws.specs.Runs as ran
-use Rattle.demands.specs.World.{Outfit, proved, Event, set, arrives, lost, run, after}
+use Rattle.demands.specs.World.{Event, set, arrives, lost, run}
 use Rattle.demands.specs.Demand2.{Demand2For}
 use Rattle.demands.specs.Demand3.{Demand3For}
 use Rattle.demands.specs.One.{rigOf}

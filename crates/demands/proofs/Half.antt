@@ -13,7 +13,6 @@ use borrow.Author.Tests.{eq-eqb, ne-eqb, eqb-true, ltb-true, ltb-false}
 use Rattle.base.specs.Pick.{pick}
 use Rattle.base.specs.Counts.{frames}
 use Rattle.base.proofs.Table.{below}
-use Rattle.frame.specs.Items.{heldAt}
 use Rattle.frame.specs.Read.{carries, bornOf, remOf, indexOf, fieldOf}
 use Rattle.frame.specs.Write.{latchOf, muxOf, frameOf}
 use Rattle.frame.proofs.Back.{field-back}

@@ -1,25 +1,16 @@
 -- After any run of events the desk shows what the history says.
 -- Assumes nothing.
 use mathlib.Core.Path.{_≡_, refl, _∙_, sym, ap, subst}
-use mathlib.Core.Bool.{Bool, true, false}
 use mathlib.Core.List.{List, [], _∷_, _++_}
-use Prim.Native.Nat.{ℕ, zero, suc, _+_, _%_, _<_, _≤_}
+use Prim.Native.Nat.{ℕ, _+_, _<_}
 use native.Mathlib.Omega.{arith}
-use lib.Dec.{eqb}
 use lib.ListN.{length, getD, getD-replicate}
-use borrow.Author.Tests.{ne-eqb, lt-ltb}
-use Rattle.base.specs.Pick.{pick}
-use Rattle.frame.specs.declared.Refusal.the-variants.{NotForty}
-use Rattle.frame.specs.declared.Arrived.{Arrived}
-use Rattle.frame.specs.declared.Arrived.the-variants.{Whole}
-use Rattle.frame.specs.Read.{arrivedOf, allAre}
-use Rattle.frame.proofs.Laws.{laws as frame-laws}
+use borrow.Author.Tests.{lt-ltb}
 use Rattle.desk.specs.declared.Shown.{Shown}
-use Rattle.desk.specs.declared.Shown.the-variants.{Unknown, Known}
 use Rattle.desk.specs.declared.Desk.{Desk}
 use Rattle.desk.specs.declared.Received.{Received}
 use Rattle.desk.specs.declared.Half.{Half}
-use Rattle.desk.specs.Desk.{latestOf, agedOf, cellsAfter, readingOf, halfAfter, tookOf, slotOf, missedOf, heardOf, blank, nothing, shows}
+use Rattle.desk.specs.Desk.{cellsAfter, readingOf, halfAfter, slotOf, missedOf, heardOf, blank, nothing, shows}
 use Rattle.rig.specs.declared.Rig.{Rig}
 use Rattle.rig.specs.Words.{takeOf}
 use Rattle.rig.specs.Power.{spunOf, setOf}
@@ -32,7 +23,8 @@ use Rattle.laws.proofs.Runs.{run-laws}
 use Rattle.demands.specs.History.{Slot, missed, whole}
 use Rattle.demands.specs.World.{Event, word, spin, set, cut, arrives, lost, lostC0, lostFF, idle, idleC0, idleFF, noRoom, torn, World, proved, start, next, run, fillC0, fillFF}
 use Rattle.demands.proofs.Shown.{brought, shownOf}
-use Rattle.demands.proofs.Cells.{size, at-cell}
+use Rattle.desk.proofs.Cells.{size, at-cell}
+use Rattle.desk.proofs.Laws.{laws as desk-laws}
 use Rattle.demands.proofs.Half.{Good, halfOf, Linked, half-step, reads, linked-built, linked-missed}
 
 -- a rig that some run of the rig's own events reaches
@@ -71,25 +63,21 @@ pub record Inv (w : World) : Type 0 where
   pub cells : length (w .desk .cells) ≡ 27
   pub shown : (k : ℕ) → k < 27 → shows (w .desk) k ≡ shownOf k (w .past)
 
--- the rig never writes a frame that the desk takes for a miss
-taken : (d : Desk) (r : Rig) → slotOf d (nextFrame r) .desk ≡ heardOf d (nextFrame r)
-unfolding slotOf
-taken d r =
-    ap (λ (x : Arrived). tookOf d (nextFrame r) x .desk) (frame-laws .whole (heldOf r) (r .sending .next) (nextLatch r))
+-- the desk that bytes in a slot leave: a built frame is heard, fill is a miss, bytes of another length change nothing
+abbrev deskOf : Received → Desk
+deskOf a = a .desk
 
--- fill is a miss
+taken : (d : Desk) (r : Rig) → slotOf d (nextFrame r) .desk ≡ heardOf d (nextFrame r)
+taken d r = ap deskOf (desk-laws .built d (heldOf r) (r .sending .next) (nextLatch r))
+
 fill-C0 : (d : Desk) → slotOf d fillC0 .desk ≡ missedOf d
-unfolding slotOf arrivedOf allAre
-fill-C0 d = refl
+fill-C0 d = ap deskOf (desk-laws .fill-C0 d)
 
 fill-FF : (d : Desk) → slotOf d fillFF .desk ≡ missedOf d
-unfolding slotOf arrivedOf allAre
-fill-FF d = refl
+fill-FF d = ap deskOf (desk-laws .fill-FF d)
 
--- bytes of another length change nothing
 torn-stays : (d : Desk) (f : List ℕ) → (length f ≡ 40 → ⊥) → slotOf d f .desk ≡ d
-unfolding slotOf arrivedOf
-torn-stays d f n = rw (ne-eqb _ _ n)
+torn-stays d f n = ap deskOf (desk-laws .refused d f n)
 
 -- the cells of a desk after a slot that shows f k of item k
 slot-step : (f : ℕ → Shown) (d : Desk) (h : List Slot) (s : Slot) → length (d .cells) ≡ 27

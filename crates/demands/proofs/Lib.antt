@@ -1,6 +1,5 @@
 -- The proofs of the demands.
 pub mod Shown
-pub mod Cells
 pub mod Half
 pub mod Invariant
 pub mod Window

@@ -7,7 +7,7 @@ use mathlib.Core.Logic.{_⊎_, inl, inr}
 use Prim.Native.Nat.{ℕ, zero, suc, _+_, _-_, _%_, _<_, _≤_, min}
 use native.Mathlib.Nat.{not-suc-le-zero, mod-le}
 use native.Mathlib.Omega.{arith}
-use lib.Dec.{T, eqb, leb, ltb, leb→le, ltb→lt}
+use lib.Dec.{eqb, leb, ltb, leb→le, ltb→lt}
 use lib.ListN.{drop}
 use lib.Seq.{drop-nil}
 use borrow.Author.Tests.{eq-eqb, eqb-true}

@@ -6,13 +6,11 @@ use mathlib.Core.List.{List, [], _∷_, _++_}
 use Prim.Native.Nat.{ℕ}
 use lib.IntN.{ℤ, pos, negsuc}
 use lib.ListN.{getD, replicate}
-use Rattle.judge.specs.declared.Refusal.the-variants.{RelayOff, Disabled, StrayWord, RelayBits, WrongCheck, WrongCount}
-use Rattle.judge.specs.Refusals.{numberOf}
+use Rattle.judge.specs.declared.Refusal.the-variants.{RelayOff, Disabled, RelayBits, WrongCheck, WrongCount}
 use Rattle.rig.specs.declared.Rig.{Rig}
 use Rattle.rig.specs.declared.Answer.the-variants.{Accepted, Waiting, Refused}
 use Rattle.rig.specs.declared.Reply.{Reply}
-use Rattle.rig.specs.declared.Reply.the-variants.{Plain, Swallowed, Dropped}
-use Rattle.rig.specs.declared.Taken.{Taken}
+use Rattle.rig.specs.declared.Reply.the-variants.{Plain, Dropped}
 use Rattle.rig.specs.Words.{takeOf}
 use Rattle.rig.specs.Replies.{refusalsOf}
 use Rattle.rig.specs.Power.{startRig}

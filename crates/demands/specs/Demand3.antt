@@ -2,13 +2,11 @@
 -- Fresh rig, fresh desk, any run of words, spins, settings, power cuts and frames, each slot reaching the desk in order, whole or missed. Assumes nothing.
 use mathlib.Core.Path.{_≡_}
 use mathlib.Core.List.{List}
-use Prim.Native.Nat.{ℕ, _<_}
 use lib.ListN.{replicate}
 use Rattle.base.specs.declared.Frames.{Frames}
 use Rattle.base.specs.Counts.{frames}
 use Rattle.frame.specs.declared.Item.{Item}
 use Rattle.frame.specs.Items.{rowOf}
-use Rattle.desk.specs.declared.Shown.{Shown}
 use Rattle.desk.specs.declared.Shown.the-variants.{Known}
 use Rattle.demands.specs.History.{held, Told}
 use Rattle.demands.specs.World.{Outfit, World, Event, arrives, after, run}

@@ -4,7 +4,6 @@ use mathlib.Core.Path.{_≡_}
 use mathlib.Core.Bool.{Bool, true, false}
 use mathlib.Core.List.{List, [], _∷_}
 use Prim.Native.Nat.{ℕ}
-use lib.ListN.{getD}
 use Rattle.base.specs.Pick.{pick}
 use Rattle.frame.specs.declared.Item.{Item}
 use Rattle.frame.specs.Items.{rowOf}

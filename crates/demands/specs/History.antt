@@ -5,8 +5,7 @@ use mathlib.Core.List.{List, _∷_}
 use Prim.Native.Nat.{ℕ, suc, _+_, _%_, _<_, min}
 use lib.ListN.{drop}
 use Rattle.base.specs.Counts.{frames, ceiling}
-use Rattle.frame.specs.declared.Item.{Item}
-use Rattle.frame.specs.Items.{rowOf, heldAt}
+use Rattle.frame.specs.Items.{heldAt}
 use Rattle.frame.specs.Read.{periodOf, phaseOf, bornOf}
 use Rattle.desk.specs.declared.Shown.{Shown}
 use Rattle.desk.specs.declared.Shown.the-variants.{Unknown, Known}

@@ -9,11 +9,9 @@ use Rattle.supply.specs.Rules.{targeted, limited, relayed, switched}
 use Rattle.supply.specs.declared.Supply.{Supply}
 use Rattle.supply.specs.declared.Change.{Change}
 use Rattle.supply.specs.declared.Change.the-variants.{Done, Refused}
-use Rattle.judge.specs.declared.Mux.{Mux}
 use Rattle.judge.specs.declared.Window.{Window}
 use Rattle.judge.specs.declared.Sensor.{Sensor}
 use Rattle.judge.specs.declared.Iel.{Iel}
-use Rattle.judge.specs.declared.Settings.{Settings}
 use Rattle.judge.specs.declared.Core.{Core}
 use Rattle.judge.specs.declared.Verdict.{Verdict}
 use Rattle.judge.specs.declared.Verdict.the-variants.{Apply, Deny}

@@ -1,8 +1,6 @@
 -- The start, spins, power cuts and the instructor's settings (01, "Spins and power").
 -- Assumes nothing.
-use Prim.Native.Nat.{ℕ}
-use mathlib.Core.Bool.{Bool, true, false}
-use Rattle.base.specs.declared.Spins.{Spins}
+use mathlib.Core.Bool.{false}
 use Rattle.base.specs.Counts.{spins, spinMore}
 use Rattle.supply.specs.Rules.{stepped}
 use Rattle.judge.specs.declared.Core.{Core}

@@ -2,7 +2,6 @@
 -- Assumes nothing.
 use Prim.Native.Nat.{ℕ, _+_, _/_, _%_}
 use mathlib.Core.Bool.{Bool, true, false, _&&_}
-use mathlib.Core.List.{List, [], _∷_}
 use lib.Dec.{eqb, ltb}
 use lib.ListN.{take, getD, set, replicate}
 use Rattle.base.specs.Pick.{pick}
@@ -21,9 +20,7 @@ use Rattle.rig.specs.declared.Kind.the-variants.{Single, Head, Data, End
 use Rattle.rig.specs.declared.Faults.{Faults}
 use Rattle.rig.specs.declared.Pending.{Pending}
 use Rattle.rig.specs.declared.Rig.{Rig}
-use Rattle.rig.specs.declared.Answer.{Answer}
 use Rattle.rig.specs.declared.Answer.the-variants.{Accepted, Waiting, Refused}
-use Rattle.rig.specs.declared.Reply.{Reply}
 use Rattle.rig.specs.declared.Reply.the-variants.{Plain, Swallowed, Dropped}
 use Rattle.rig.specs.declared.Judgement.{Judgement}
 use Rattle.rig.specs.declared.Taken.{Taken}

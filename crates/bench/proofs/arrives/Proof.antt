@@ -1,13 +1,11 @@
 -- `bench::arrives` meets its contract: a written frame had room, stands at the named place, and is what the desk is handed.
 -- Assumes nothing.
 use mathlib.Core.Path.{_≡_, sym, ap, _∙_}
-use Prim.Native.Nat.{ℕ, _+_, _≤_}
-use mathlib.Core.List.{List}
+use Prim.Native.Nat.{_+_, _≤_}
 use native.Mathlib.Omega.{arith}
 use borrow.Author.Needs.{needs}
 use lib.ListN.{length}
 use denote.Ref.{now}
-use Rattle.frame.specs.declared.Wrote.{Wrote}
 use Rattle.frame.specs.declared.Wrote.the-variants.{Done}
 use Rattle.frame.specs.Write.{wroteOf}
 use Rattle.bench.specs.declared.Sent.{Sent}
