@@ -15,7 +15,7 @@ use Rattle.frame.specs.declared.Wrote.the-variants.{Done, Refused}
 use Rattle.frame.specs.Write.{wroteOf, frameOf}
 use Rattle.frame.proofs.Place.{frame-length, room}
 use Rattle.rig.specs.declared.Rig.{Rig}
-use Rattle.rig.specs.Frames.{heldOf, nextLatch, sentWith, filledOf}
+use Rattle.sending.specs.Sending.{heldOf, nextLatch, sentWith, filledOf}
 use Rattle.desk.specs.Desk.{slotOf}
 use Rattle.bench.specs.declared.Bench.{Bench}
 use Rattle.bench.specs.declared.Sent.{Sent}

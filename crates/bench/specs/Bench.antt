@@ -7,11 +7,12 @@ use Rattle.frame.specs.declared.Wrote.the-variants.{Done, Refused}
 use Rattle.frame.specs.Write.{wroteOf, frameOf}
 use Rattle.desk.specs.declared.Desk.{Desk}
 use Rattle.desk.specs.Desk.{freshDesk, slotOf, missedOf}
-use Rattle.rig.specs.declared.PanelSetting.{PanelSetting}
+use Rattle.power.specs.declared.PanelSetting.{PanelSetting}
 use Rattle.rig.specs.declared.Rig.{Rig}
 use Rattle.rig.specs.Words.{takeOf}
-use Rattle.rig.specs.Power.{startRig, spunOf, setOf, cutOf}
-use Rattle.rig.specs.Frames.{heldOf, nextLatch, sent, builtOf}
+use Rattle.rig.specs.Start.{startRig}
+use Rattle.power.specs.Power.{spunOf, setOf, cutOf}
+use Rattle.sending.specs.Sending.{heldOf, nextLatch, sent, builtOf}
 use Rattle.bench.specs.declared.Bench.{Bench}
 use Rattle.bench.specs.declared.Worded.{Worded}
 use Rattle.bench.specs.declared.Sent.{Sent}

@@ -3,14 +3,14 @@
 ghost use mathlib.Core.Path.{_≡_};
 ghost use Rattle.frame.specs.Items.{rowOf};
 ghost use Rattle.desk.specs.Desk.{shows};
-ghost use Rattle.rig.specs.Frames.{filledOf};
+ghost use Rattle.sending.specs.Sending.{filledOf};
 ghost use Rattle.bench.specs.Bench.{freshBench, wordedOf, spunBench, setBench, cutBench, builtBench, arrivedBench, handedOf, missedBench};
 use desk::Answer;
 use desk::Desk;
 use desk::Shown;
 use frame::Item;
 use frame::Wrote;
-use rig::PanelSetting;
+use power::PanelSetting;
 use rig::Reply;
 use rig::Rig;
 
@@ -40,7 +40,7 @@ pub struct Handed {
 pub fn fresh() -> Bench
     ensures { λ r. ⌜ r ≡ freshBench ⌝ }
 {
-    let rig = rig::power::start();
+    let rig = rig::start();
     let desk = desk::fresh();
     Bench { rig, desk }
 }
@@ -64,7 +64,7 @@ pub fn spin(bench: Bench) -> Bench
 {
     let was = bench.rig;
     let desk = bench.desk;
-    let rig = rig::power::spin(was);
+    let rig = power::spin(was);
     Bench { rig, desk }
 }
 
@@ -73,7 +73,7 @@ pub fn set(bench: Bench, setting: PanelSetting) -> Bench
 {
     let was = bench.rig;
     let desk = bench.desk;
-    let rig = rig::power::set(was, setting);
+    let rig = power::set(was, setting);
     Bench { rig, desk }
 }
 
@@ -83,7 +83,7 @@ pub fn power_cut(bench: Bench) -> Bench
 {
     let was = bench.rig;
     let desk = bench.desk;
-    let rig = rig::power::power_cut(was);
+    let rig = power::power_cut(was);
     Bench { rig, desk }
 }
 
@@ -93,7 +93,7 @@ pub fn build(bench: Bench, buf: &mut [u8], at: usize) -> Sent
 {
     let was = bench.rig;
     let desk = bench.desk;
-    let b = rig::frames::build(was, buf, at);
+    let b = sending::build(was, buf, at);
     let rig = b.rig;
     let wrote = b.answer;
     Sent {

@@ -10,8 +10,8 @@ use Rattle.frame.specs.Items.{numbered}
 use Rattle.frame.proofs.Place.{short, room}
 use Rattle.desk.proofs.Laws.{laws as desk-laws}
 use Rattle.rig.specs.declared.Rig.{Rig}
-use Rattle.rig.specs.declared.Built.{Built}
-use Rattle.rig.specs.Frames.{heldOf, nextLatch, builtOf}
+use Rattle.sending.specs.declared.Built.{Built}
+use Rattle.sending.specs.Sending.{heldOf, nextLatch, builtOf}
 use Rattle.laws.proofs.Replies.{reply-laws}
 use Rattle.block.proofs.Order.{order}
 use Rattle.block.proofs.Laws.{part-length, part-none}

@@ -13,13 +13,14 @@ use Rattle.frame.specs.Read.{allAre, arrivedOf}
 use Rattle.desk.specs.declared.Shown.{Shown}
 use Rattle.desk.specs.declared.Shown.the-variants.{Unknown, Known}
 use Rattle.desk.specs.Desk.{readingOf, halfAfter, cellsAfter, slotOf}
-use Rattle.rig.specs.declared.PanelSetting.the-variants as panel
+use Rattle.power.specs.declared.PanelSetting.the-variants as panel
 use Rattle.rig.specs.declared.Rig.{Rig}
 use Rattle.rig.specs.declared.Answer.the-variants.{Accepted, Refused}
 use Rattle.rig.specs.declared.Reply.the-variants.{Plain}
 use Rattle.rig.specs.declared.Taken.{Taken}
 use Rattle.rig.specs.Words.{kindOf, refusedOf, settledOf, freshOf, takeOf}
-use Rattle.rig.specs.Power.{startRig, setOf}
+use Rattle.rig.specs.Start.{startRig}
+use Rattle.power.specs.Power.{setOf}
 use Rattle.laws.specs.Rows.{RowLaws}
 use Rattle.laws.specs.Runs as ran
 use Rattle.demands.specs.World.{Event, set, arrives, lost, run}

@@ -13,8 +13,8 @@ use Rattle.desk.specs.declared.Half.{Half}
 use Rattle.desk.specs.Desk.{cellsAfter, readingOf, halfAfter, slotOf, missedOf, heardOf, blank, nothing, shows}
 use Rattle.rig.specs.declared.Rig.{Rig}
 use Rattle.rig.specs.Words.{takeOf}
-use Rattle.rig.specs.Power.{spunOf, setOf}
-use Rattle.rig.specs.Frames.{heldOf, nextLatch, sent, builtOf}
+use Rattle.power.specs.Power.{spunOf, setOf}
+use Rattle.sending.specs.Sending.{heldOf, nextLatch, sent, builtOf}
 use Rattle.bench.specs.Bench.{nextFrame}
 use Rattle.laws.specs.Runs.{ours, reached}
 use Rattle.laws.specs.Runs as ran

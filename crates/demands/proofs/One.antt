@@ -16,8 +16,8 @@ use Rattle.desk.specs.declared.Shown.the-variants.{Known}
 use Rattle.desk.specs.declared.Received.{Received}
 use Rattle.rig.specs.declared.Rig.{Rig}
 use Rattle.rig.specs.Words.{takeOf}
-use Rattle.rig.specs.Power.{spunOf, setOf, cutOf}
-use Rattle.rig.specs.Frames.{sent, builtOf}
+use Rattle.power.specs.Power.{spunOf, setOf, cutOf}
+use Rattle.sending.specs.Sending.{sent, builtOf}
 use Rattle.laws.proofs.Replies.{reply-laws}
 use Rattle.laws.proofs.Rows.{row-laws}
 use Rattle.laws.proofs.One as laws

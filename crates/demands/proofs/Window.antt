@@ -17,7 +17,7 @@ use Rattle.frame.specs.Read.{carries, bornOf, phaseOf}
 use Rattle.desk.specs.Desk.{agedOf, latestOf, shows}
 use Rattle.base.proofs.Table.{below}
 use Rattle.rig.specs.declared.Rig.{Rig}
-use Rattle.rig.specs.Frames.{sent}
+use Rattle.sending.specs.Sending.{sent}
 use Rattle.demands.specs.History.{held, Slot, whole}
 use Rattle.demands.proofs.Shown.{Run, broken, from, back, known, brought, shownOf, back-one, back-more}
 use Rattle.demands.specs.World.{Event, arrives, World, proved, start, next, run}

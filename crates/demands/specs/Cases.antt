@@ -13,7 +13,7 @@ use Rattle.rig.specs.declared.Reply.{Reply}
 use Rattle.rig.specs.declared.Reply.the-variants.{Plain, Dropped}
 use Rattle.rig.specs.Words.{takeOf}
 use Rattle.rig.specs.Replies.{refusalsOf}
-use Rattle.rig.specs.Power.{startRig}
+use Rattle.rig.specs.Start.{startRig}
 use Rattle.bench.specs.Bench.{nextFrame}
 use Rattle.volts.specs.Volts.{biasOf}
 use Rattle.event.specs.Ifft.{itemAt}

@@ -12,7 +12,7 @@ use Rattle.desk.specs.declared.Desk.{Desk}
 use Rattle.desk.specs.declared.Answer.the-variants as desk
 use Rattle.desk.specs.Laws.{answered}
 use Rattle.rig.specs.declared.Rig.{Rig}
-use Rattle.rig.specs.Frames.{builtOf, filledOf}
+use Rattle.sending.specs.Sending.{builtOf, filledOf}
 use Rattle.laws.specs.Replies.{ReplyLaws}
 use Rattle.block.specs.declared.Part.{Part}
 use Rattle.block.specs.declared.Refusal.{Refusal}

@@ -12,7 +12,7 @@ use Rattle.volts.specs.Volts.{Shows}
 use Rattle.frame.specs.Write.{latchOf, frameOf}
 use Rattle.frame.specs.Laws.{Laws}
 use Rattle.rig.specs.declared.Rig.{Rig}
-use Rattle.rig.specs.Frames.{heldOf}
+use Rattle.sending.specs.Sending.{heldOf}
 use Rattle.laws.specs.Rows.{RowLaws}
 use Rattle.laws.specs.Runs.{RunLaws}
 use Rattle.block.specs.declared.Part.{Part}

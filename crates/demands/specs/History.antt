@@ -10,7 +10,7 @@ use Rattle.frame.specs.Read.{periodOf, phaseOf, bornOf}
 use Rattle.desk.specs.declared.Shown.{Shown}
 use Rattle.desk.specs.declared.Shown.the-variants.{Unknown, Known}
 use Rattle.rig.specs.declared.Rig.{Rig}
-use Rattle.rig.specs.Frames.{heldOf}
+use Rattle.sending.specs.Sending.{heldOf}
 
 -- a slot: missed, or whole, with the rig as it was when that frame was built
 pub data Slot : Type 0 where

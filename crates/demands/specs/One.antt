@@ -10,8 +10,9 @@ use Rattle.desk.specs.declared.Received.{Received}
 use Rattle.rig.specs.declared.Rig.{Rig}
 use Rattle.rig.specs.declared.Taken.{Taken}
 use Rattle.rig.specs.Words.{takeOf}
-use Rattle.rig.specs.Power.{startRig, spunOf, setOf, cutOf}
-use Rattle.rig.specs.Frames.{sent}
+use Rattle.rig.specs.Start.{startRig}
+use Rattle.power.specs.Power.{spunOf, setOf, cutOf}
+use Rattle.sending.specs.Sending.{sent}
 use Rattle.bench.specs.Bench.{nextFrame}
 use Rattle.laws.specs.Runs.{ours}
 use Rattle.demands.specs.History.{Slot, Told}

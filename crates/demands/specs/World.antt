@@ -10,9 +10,9 @@ use Rattle.desk.specs.declared.Desk.{Desk}
 use Rattle.desk.specs.declared.Shown.{Shown}
 use Rattle.desk.specs.declared.Received.{Received}
 use Rattle.desk.specs.Desk.{freshDesk, slotOf, missedOf, shows}
-use Rattle.rig.specs.declared.PanelSetting.{PanelSetting}
+use Rattle.power.specs.declared.PanelSetting.{PanelSetting}
 use Rattle.rig.specs.declared.Rig.{Rig}
-use Rattle.rig.specs.Frames.{builtOf}
+use Rattle.sending.specs.Sending.{builtOf}
 use Rattle.bench.specs.Bench.{nextFrame}
 use Rattle.laws.specs.Runs.{FitsPanel, Machine, ours}
 use Rattle.demands.specs.History.{Slot, missed, whole}

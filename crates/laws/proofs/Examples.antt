@@ -16,7 +16,7 @@ use Rattle.rig.specs.declared.Reply.{Reply}
 use Rattle.rig.specs.declared.Reply.the-variants.{Plain}
 use Rattle.rig.specs.declared.Taken.{Taken}
 use Rattle.rig.specs.Words.{kindOf, refusedOf, settledOf, headOf, freshOf, verdictOf, closedOf, droppedOf, pendingOf, takeOf}
-use Rattle.rig.specs.Power.{startRig}
+use Rattle.rig.specs.Start.{startRig}
 use Rattle.laws.specs.Replies.{ReplyLaws}
 use Rattle.laws.specs.Rows.{RowLaws}
 use Rattle.laws.specs.Runs.{Event, word, cut, ours, run, ledger, reached, given}

@@ -14,13 +14,14 @@ use Rattle.supply.proofs.Kept.{stepped-safe, stepped-quiet}
 use Rattle.frame.specs.Items.{heldAt}
 use Rattle.frame.specs.Read.{remOf}
 use Rattle.rig.specs.declared.Panel.{Panel}
-use Rattle.rig.specs.declared.PanelSetting.{PanelSetting}
-use Rattle.rig.specs.declared.PanelSetting.the-variants.{Bias, Ground, FreeTime, Flaps}
+use Rattle.power.specs.declared.PanelSetting.{PanelSetting}
+use Rattle.power.specs.declared.PanelSetting.the-variants.{Bias, Ground, FreeTime, Flaps}
 use Rattle.rig.specs.declared.Sending.{Sending}
 use Rattle.rig.specs.declared.Rig.{Rig}
 use Rattle.rig.specs.Words.{highOf, lowOf, checkOf, takeOf}
-use Rattle.rig.specs.Power.{startRig, panelOf, setOf}
-use Rattle.rig.specs.Frames.{heldOf, bit, nextLatch}
+use Rattle.rig.specs.Start.{startRig}
+use Rattle.power.specs.Power.{panelOf, setOf}
+use Rattle.sending.specs.Sending.{heldOf, bit, nextLatch}
 use Rattle.laws.specs.Replies.{closing}
 use Rattle.laws.specs.Runs.{FitsPanel, Event, word, spin, set, cut, frame, ours, after, run, Ledger, blank, entered, ledger, reached, given, Bounds, RunLaws}
 use Rattle.laws.proofs.Tests.{by-test}

@@ -12,8 +12,8 @@ use Rattle.frame.specs.Items.{heldAt}
 use Rattle.frame.specs.Read.{remOf}
 use Rattle.judge.specs.Refusals.{numberOf}
 use Rattle.supply.specs.Laws.{SpinMoves}
-use Rattle.rig.specs.declared.PanelSetting.{PanelSetting}
-use Rattle.rig.specs.declared.PanelSetting.the-variants.{Bias, Ground, FreeTime, Flaps}
+use Rattle.power.specs.declared.PanelSetting.{PanelSetting}
+use Rattle.power.specs.declared.PanelSetting.the-variants.{Bias, Ground, FreeTime, Flaps}
 use Rattle.rig.specs.declared.Rig.{Rig}
 use Rattle.rig.specs.declared.Answer.the-variants.{Accepted, Waiting, Refused}
 use Rattle.rig.specs.declared.Reply.{Reply}
@@ -21,8 +21,9 @@ use Rattle.rig.specs.declared.Reply.the-variants.{Plain, Swallowed, Dropped}
 use Rattle.rig.specs.declared.Taken.{Taken}
 use Rattle.rig.specs.Words.{highOf, nothingPending, checkOf, takeOf}
 use Rattle.rig.specs.Replies.{refusalsOf}
-use Rattle.rig.specs.Power.{startRig, spunOf, cutOf, setOf}
-use Rattle.rig.specs.Frames.{heldOf, sent}
+use Rattle.rig.specs.Start.{startRig}
+use Rattle.power.specs.Power.{spunOf, cutOf, setOf}
+use Rattle.sending.specs.Sending.{heldOf, sent}
 use Rattle.laws.specs.Replies.{closing}
 
 -- a setting is a byte, a 16-bit number or three switches

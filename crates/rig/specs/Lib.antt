@@ -1,5 +1,4 @@
 -- The rules of the rig.
 pub mod Words
 pub mod Replies
-pub mod Power
-pub mod Frames
+pub mod Start

@@ -1,15 +1,19 @@
-// The rig: what it is made of. Its modules say what moves it: words, power (spins, cuts, the instructor's settings) and the frames it sends.
-// Keeps 01 "Command words", "Spins and power" and, for building, "The 40-byte frame". The rig goes in by value and comes back.
+// The rig: what it is made of, and its start. Its module `words` takes words; `power` and `sending` stand above it.
+// Keeps 01 "Command words", and of "Spins and power" the start, to which a power cut returns. The rig goes in by value and comes back.
 ghost use mathlib.Core.Path.{_≡_};
 ghost use Rattle.rig.specs.Words.{nothingPending};
+ghost use Rattle.rig.specs.Start.{startCore, startRig};
 use base::Spins;
-use frame::Wrote;
 use judge::Core;
+use judge::Iel;
+use judge::Mux;
 use judge::Refusal;
+use judge::Sensor;
+use judge::Settings;
+use judge::Window;
+use supply::Supply;
 
 pub mod words; // words.rt: one word taken
-pub mod power; // power.rt: the start, power cuts, spins, the instructor's settings
-pub mod frames; // frames.rt: the next frame built
 
 // The kind of a word.
 pub enum Kind {
@@ -43,13 +47,6 @@ pub struct Panel {
     pub flap1: bool,
     pub flap2: bool,
     pub flap3: bool,
-}
-
-pub enum PanelSetting {
-    Bias(u8),
-    Ground(u8),
-    FreeTime(u16),
-    Flaps(bool, bool, bool),
 }
 
 // The index of the next frame, and the number latched for the frames that it is spread over.
@@ -94,12 +91,6 @@ pub struct Taken {
     pub reply: Reply,
 }
 
-// The rig after a frame was to be built, and whether it was.
-pub struct Built {
-    pub rig: Rig,
-    pub answer: Wrote,
-}
-
 // No block waits.
 fn nothing() -> Pending
     ensures { λ r. ⌜ r ≡ nothingPending ⌝ }
@@ -111,5 +102,65 @@ fn nothing() -> Pending
         n: 0,
         got: 0,
         bytes,
+    }
+}
+
+// What commands move, at the start.
+fn start_core() -> Core
+    ensures { λ r. ⌜ r ≡ startCore ⌝ }
+{
+    let supply = Supply {
+        relay: false,
+        stepping: false,
+        level: 0,
+        target: 0,
+        limit: 0,
+    };
+    let shut = Window { start: 0, stop: 0 };
+    let sensor = Sensor {
+        mux: Mux {
+            byte: 0,
+            bit: false,
+        },
+        direction: shut,
+        energy: shut,
+    };
+    let settings = Settings {
+        parallel: false,
+        mask: 7,
+        iel: Iel {
+            clock: false,
+            enable: false,
+        },
+        sensor,
+    };
+    Core { supply, settings }
+}
+
+// The start, to which a power cut returns.
+pub fn start() -> Rig
+    ensures { λ r. ⌜ r ≡ startRig ⌝ }
+{
+    let core = start_core();
+    let pending = nothing();
+    Rig {
+        core,
+        faults: Faults {
+            error: 0,
+            last: 0xFF,
+            count: 0,
+        },
+        pending,
+        check: 0,
+        panel: Panel {
+            bias: 0,
+            ground: 0,
+            free: 0,
+            flap1: false,
+            flap2: false,
+            flap3: false,
+        },
+        sending: Sending { next: 0, latch: 0 },
+        edbs: Spins(0),
     }
 }

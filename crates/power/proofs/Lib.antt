@@ -1,0 +1,2 @@
+-- Single outcome of the functions.
+pub mod Single

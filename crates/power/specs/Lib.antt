@@ -1,0 +1,2 @@
+-- What spins, power cuts and settings do.
+pub mod Power

@@ -1,0 +1,73 @@
+// Power cuts, spins, and the instructor's settings.
+// Keeps 01 "Spins and power". The spin is carried out on the supply's record.
+ghost use mathlib.Core.Path.{_≡_};
+ghost use Rattle.power.specs.Power.{spunOf, cutOf, panelOf, setOf};
+use rig::Panel;
+use rig::Rig;
+
+// A setting by the instructor.
+pub enum PanelSetting {
+    Bias(u8),
+    Ground(u8),
+    FreeTime(u16),
+    Flaps(bool, bool, bool),
+}
+
+// A power cut: a pending block is forgotten unrefused, with all else.
+pub fn power_cut(rig: Rig) -> Rig
+    ensures { λ r. ⌜ r ≡ cutOf rig ⌝ }
+{
+    rig::start()
+}
+
+// A spin: on the supply's record, and one more on the long EDB counter.
+pub fn spin(rig: Rig) -> Rig
+    ensures { λ r. ⌜ r ≡ spunOf rig ⌝ }
+{
+    let mut core = rig.core;
+    let was = core.supply;
+    let s = supply::spun(was);
+    core.supply = s;
+    let edbs = base::spin_more(rig.edbs);
+    let mut next = rig;
+    next.core = core;
+    next.edbs = edbs;
+    next
+}
+
+fn turned(panel: Panel, setting: PanelSetting) -> Panel
+    ensures { λ r. ⌜ r ≡ panelOf panel setting ⌝ }
+{
+    let mut p = panel;
+    match setting {
+        PanelSetting::Bias(b) => {
+            p.bias = b;
+            p
+        }
+        PanelSetting::Ground(b) => {
+            p.ground = b;
+            p
+        }
+        PanelSetting::FreeTime(t) => {
+            p.free = t;
+            p
+        }
+        PanelSetting::Flaps(a, b, c) => {
+            p.flap1 = a;
+            p.flap2 = b;
+            p.flap3 = c;
+            p
+        }
+    }
+}
+
+// A setting by the instructor.
+pub fn set(rig: Rig, setting: PanelSetting) -> Rig
+    ensures { λ r. ⌜ r ≡ setOf rig setting ⌝ }
+{
+    let was = rig.panel;
+    let p = turned(was, setting);
+    let mut next = rig;
+    next.panel = p;
+    next
+}

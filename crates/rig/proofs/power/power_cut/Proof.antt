@@ -1,8 +1,0 @@
--- `rig::power::power_cut` meets its contract: it is the start.
--- Assumes nothing.
-use borrow.Author.Needs.{needs}
-use Rattle.rig.proofs.power.power_cut.Statement.{statement}
-use Rattle.rig.proofs.power.power_cut.Tie as tie
-
-pub power-cut-spec : {M : Type 1} → statement M
-power-cut-spec = tie.close (tie.spec (λ c κs. search needs) (λ c. search needs))

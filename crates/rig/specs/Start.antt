@@ -1,0 +1,37 @@
+-- The start, to which a power cut returns (01, "Spins and power").
+-- Assumes nothing.
+use mathlib.Core.Bool.{false}
+use Rattle.base.specs.Counts.{spins}
+use Rattle.judge.specs.declared.Core.{Core}
+use Rattle.rig.specs.declared.Rig.{Rig}
+use Rattle.rig.specs.Words.{nothingPending}
+
+-- The start: relay and stepping off; level, target, limit, windows, multiplexers, error code, last check, invalid count, long EDB counter, readings,
+-- free time, flaps 0; last invalid code FFh; head mask 7; serial; IEL off, slow; next frame 0; no block pending.
+abbrev pub startCore : Core
+startCore =
+    record {
+      supply = record { relay = false; stepping = false; level = 0; target = 0; limit = 0 };
+      settings = record {
+        parallel = false;
+        mask = 7;
+        iel = record { clock = false; enable = false };
+        sensor = record {
+          mux = record { byte = 0; bit = false };
+          direction = record { start = 0; stop = 0 };
+          energy = record { start = 0; stop = 0 };
+        };
+      };
+    }
+
+abbrev pub startRig : Rig
+startRig =
+    record {
+      core = startCore;
+      faults = record { error = 0; last = 0xFF; count = 0 };
+      pending = nothingPending;
+      check = 0;
+      panel = record { bias = 0; ground = 0; free = 0; flap1 = false; flap2 = false; flap3 = false };
+      sending = record { next = 0; latch = 0 };
+      edbs = spins 0;
+    }

@@ -1,0 +1,2 @@
+-- Single outcome of the function.
+pub mod Single

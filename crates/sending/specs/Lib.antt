@@ -1,0 +1,2 @@
+-- What a frame shows of the rig, and what building one does.
+pub mod Sending
