@@ -51,10 +51,10 @@ pub fn word(bench: Bench, word: u16) -> Worded
     let was = bench.rig;
     let desk = bench.desk;
     let t = rig::words::take(was, word);
-    let rig = t.rig;
+    let taken = t.rig;
     let reply = t.reply;
     Worded {
-        bench: Bench { rig, desk },
+        bench: Bench { rig: taken, desk },
         reply,
     }
 }
@@ -64,8 +64,8 @@ pub fn spin(bench: Bench) -> Bench
 {
     let was = bench.rig;
     let desk = bench.desk;
-    let rig = power::spin(was);
-    Bench { rig, desk }
+    let spun = power::spin(was);
+    Bench { rig: spun, desk }
 }
 
 pub fn set(bench: Bench, setting: PanelSetting) -> Bench
@@ -73,8 +73,8 @@ pub fn set(bench: Bench, setting: PanelSetting) -> Bench
 {
     let was = bench.rig;
     let desk = bench.desk;
-    let rig = power::set(was, setting);
-    Bench { rig, desk }
+    let turned = power::set(was, setting);
+    Bench { rig: turned, desk }
 }
 
 // The desk hears nothing of a power cut.
@@ -83,8 +83,8 @@ pub fn power_cut(bench: Bench) -> Bench
 {
     let was = bench.rig;
     let desk = bench.desk;
-    let rig = power::power_cut(was);
-    Bench { rig, desk }
+    let started = power::power_cut(was);
+    Bench { rig: started, desk }
 }
 
 // The next frame is built at a place of the caller's buffer; it is for the caller to make a slot of it, whole or missed.
@@ -94,10 +94,10 @@ pub fn build(bench: Bench, buf: &mut [u8], at: usize) -> Sent
     let was = bench.rig;
     let desk = bench.desk;
     let b = sending::build(was, buf, at);
-    let rig = b.rig;
+    let sent = b.rig;
     let wrote = b.answer;
     Sent {
-        bench: Bench { rig, desk },
+        bench: Bench { rig: sent, desk },
         wrote,
     }
 }
@@ -109,10 +109,10 @@ pub fn hand(bench: Bench, frame: &[u8]) -> Handed
     let rig = bench.rig;
     let was = bench.desk;
     let t = desk::slot(was, frame);
-    let desk = t.desk;
+    let heard = t.desk;
     let answer = t.answer;
     Handed {
-        bench: Bench { rig, desk },
+        bench: Bench { rig, desk: heard },
         answer,
     }
 }
@@ -123,8 +123,8 @@ pub fn miss(bench: Bench) -> Bench
 {
     let rig = bench.rig;
     let was = bench.desk;
-    let desk = desk::missed(was);
-    Bench { rig, desk }
+    let missed = desk::missed(was);
+    Bench { rig, desk: missed }
 }
 
 // The next frame is built at a place of the caller's buffer, and from there handed to the desk whole.
