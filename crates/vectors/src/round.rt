@@ -1,0 +1,108 @@
+// A rig with every item set, one round of its frames, and what the desk then shows of all 27 items.
+// Keeps 01 "The 40-byte frame": what is written is what is read, each item at its age.
+use super::cases;
+use super::print;
+use super::slots;
+use bench::Bench;
+use frame::Item;
+use rig::PanelSetting;
+
+// The blocks, the singles, one refusal, and three spins towards the target.
+fn commanded(bench: Bench) -> Bench {
+    let mux = cases::send_four(bench, 0x6002, 0xA041, 0xA001, 0xE049);
+    let direction = cases::send_four(mux, 0x6302, 0xA303, 0xA313, 0xE346);
+    let energy = cases::send_four(direction, 0x6402, 0xA401, 0xA41E, 0xE44F);
+    let settings = cases::send_four(energy, 0x0C03, 0x2605, 0x2B01, 0x0802);
+    let supply = cases::send_four(settings, 0x2D01, 0x290A, 0x2807, 0x280B);
+    print::text(b"3 spins\n");
+    slots::spins(supply, 3)
+}
+
+fn paneled(bench: Bench) -> Bench {
+    print::text(b"bias 9Ah, ground 70h, free time 1234h, flaps 1 and 3\n");
+    let bias = bench::set(bench, PanelSetting::Bias(0x9A));
+    let ground = bench::set(bias, PanelSetting::Ground(0x70));
+    let free = bench::set(ground, PanelSetting::FreeTime(0x1234));
+    bench::set(free, PanelSetting::Flaps(true, false, true))
+}
+
+// A frame built and heard, with its line: frame 0 whole, of the others the bytes that the index governs.
+fn heard(bench: Bench) -> Bench {
+    let mut f = [0u8; 40];
+    let sent = bench::arrives(bench, &mut f, 0);
+    print::text(b"frame ");
+    print::small(f[0]);
+    if f[0] == 0 {
+        print::part(&f, 1, 40);
+    } else {
+        print::text(b" bytes 37 to 39");
+        print::part(&f, 37, 40);
+    }
+    print::text(b"\n");
+    sent.bench
+}
+
+fn all_heard(bench: Bench, times: u32) -> Bench {
+    let mut b = bench;
+    let mut i: u32 = 0;
+    while i < times {
+        b = heard(b);
+        i += 1;
+    }
+    b
+}
+
+fn show(bench: Bench, name: &[u8], item: Item) {
+    print::text(name);
+    slots::say_byte(bench::look(bench, item));
+    print::text(b"\n");
+}
+
+fn show_long(bench: Bench, name: &[u8], item: Item) {
+    print::text(name);
+    slots::say_long(bench::look(bench, item));
+    print::text(b"\n");
+}
+
+fn show_all(bench: Bench) {
+    show(bench, b"Parallel", Item::Parallel);
+    show(bench, b"Multiplexer1", Item::Multiplexer1);
+    show(bench, b"Multiplexer2", Item::Multiplexer2);
+    show(bench, b"Multiplexer3", Item::Multiplexer3);
+    show(bench, b"ErrorCode", Item::ErrorCode);
+    show(bench, b"DirectionStop", Item::DirectionStop);
+    show(bench, b"DirectionStart", Item::DirectionStart);
+    show(bench, b"EnergyStop", Item::EnergyStop);
+    show(bench, b"EnergyStart", Item::EnergyStart);
+    show(bench, b"LastInvalidCode", Item::LastInvalidCode);
+    show(bench, b"IelEnable", Item::IelEnable);
+    show(bench, b"ReducedCounter", Item::ReducedCounter);
+    show(bench, b"Bias", Item::Bias);
+    show(bench, b"Relay", Item::Relay);
+    show(bench, b"Ground", Item::Ground);
+    show(bench, b"Stepping", Item::Stepping);
+    show(bench, b"Limit", Item::Limit);
+    show(bench, b"Level", Item::Level);
+    show(bench, b"Flap1", Item::Flap1);
+    show(bench, b"Flap2", Item::Flap2);
+    show(bench, b"Flap3", Item::Flap3);
+    show(bench, b"IelClock", Item::IelClock);
+    show(bench, b"LastCheck", Item::LastCheck);
+    show(bench, b"InvalidCount", Item::InvalidCount);
+    show(bench, b"HeadMask", Item::HeadMask);
+    show_long(bench, b"LongCounter", Item::LongCounter);
+    show_long(bench, b"FreeTime", Item::FreeTime);
+}
+
+pub fn run() {
+    print::text(b"a round of frames\n66048 spins\n");
+    let spun = slots::spins(bench::fresh(), 66048);
+    let set = paneled(commanded(spun));
+    let round = all_heard(set, 32);
+    show_all(round);
+    print::text(b"power cut\n");
+    let cut = bench::power_cut(round);
+    let again = all_heard(cut, 1);
+    show(again, b"LastInvalidCode", Item::LastInvalidCode);
+    show(again, b"LastCheck", Item::LastCheck);
+}

@@ -1,0 +1,220 @@
+// Three of the class's mistakes, as runs that show what the desk shows, slot by slot.
+// Keeps 01 "What students would slip past us" and the desk's paragraph of "The 40-byte frame".
+use super::cases;
+use super::print;
+use bench::Bench;
+use desk::Shown;
+use frame::Item;
+use rig::PanelSetting;
+
+// What comes in a slot. The rig has built its next frame in each case.
+enum Slot {
+    Whole,
+    Missed,
+    Fill,
+}
+
+// The bench after so many slots, the last one's frame as it was built, and what came.
+struct Watch {
+    bench: Bench,
+    slots: u32,
+    frame: [u8; 40],
+    came: Slot,
+}
+
+pub fn say_byte(shown: Shown) {
+    match shown {
+        Shown::Unknown => print::text(b" unknown"),
+        Shown::Known(v, age) => {
+            print::text(b" ");
+            print::byte((v % 256) as u8);
+            print::text(b" age ");
+            print::number(age.0 as u64);
+        }
+    }
+}
+
+pub fn say_long(shown: Shown) {
+    match shown {
+        Shown::Unknown => print::text(b" unknown"),
+        Shown::Known(v, age) => {
+            print::text(b" ");
+            print::long(v);
+            print::text(b" age ");
+            print::number(age.0 as u64);
+        }
+    }
+}
+
+fn start(name: &[u8]) -> Watch {
+    print::text(name);
+    Watch {
+        bench: bench::fresh(),
+        slots: 0,
+        frame: [0u8; 40],
+        came: Slot::Missed,
+    }
+}
+
+fn with_bench(watch: Watch, bench: Bench) -> Watch {
+    let frame = watch.frame;
+    let came = watch.came;
+    Watch {
+        bench,
+        slots: watch.slots,
+        frame,
+        came,
+    }
+}
+
+fn arrive(built: Bench, frame: &[u8], came: Slot) -> Bench {
+    match came {
+        Slot::Whole => bench::hand(built, frame).bench,
+        Slot::Missed => bench::miss(built),
+        Slot::Fill => bench::hand(built, &[0xC0u8; 40]).bench,
+    }
+}
+
+// One slot.
+fn pass(watch: Watch, came: Slot) -> Watch {
+    let mut frame = [0u8; 40];
+    let sent = bench::build(watch.bench, &mut frame, 0);
+    Watch {
+        bench: arrive(sent.bench, &frame, came),
+        slots: std::num::wrapping_add_u32(watch.slots, 1),
+        frame,
+        came,
+    }
+}
+
+fn pass_all(watch: Watch, came: Slot, times: u32) -> Watch {
+    let mut r = watch;
+    let mut i: u32 = 0;
+    while i < times {
+        r = pass(r, came);
+        i += 1;
+    }
+    r
+}
+
+pub fn spins(bench: Bench, times: u32) -> Bench {
+    let mut b = bench;
+    let mut i: u32 = 0;
+    while i < times {
+        b = bench::spin(b);
+        i += 1;
+    }
+    b
+}
+
+// The slot's number, from 0, and what came.
+fn say_slot(watch: Watch) {
+    print::text(b"slot ");
+    print::number(std::num::wrapping_sub_u32(watch.slots, 1) as u64);
+    let came = watch.came;
+    let frame = watch.frame;
+    match came {
+        Slot::Whole => {
+            print::text(b" index ");
+            print::small(frame[0] % 32);
+            print::text(b" byte 39 ");
+            print::byte(frame[39]);
+        }
+        Slot::Missed => print::text(b" missed"),
+        Slot::Fill => print::text(b" fill C0h"),
+    }
+}
+
+// A slot, and what the desk then shows of the last check.
+fn check_slot(watch: Watch, came: Slot) -> Watch {
+    let next = pass(watch, came);
+    say_slot(next);
+    print::text(b" LastCheck");
+    say_byte(bench::look(next.bench, Item::LastCheck));
+    print::text(b"\n");
+    next
+}
+
+// The long EDB counter.
+fn counter_slot(watch: Watch, came: Slot) -> Watch {
+    let next = pass(watch, came);
+    say_slot(next);
+    print::text(b" LongCounter");
+    say_long(bench::look(next.bench, Item::LongCounter));
+    print::text(b"\n");
+    next
+}
+
+// The last invalid code, which every frame brings; ground, which frames 0, 8, 16 and 24 bring; the long EDB counter.
+fn fill_slot(watch: Watch, came: Slot) -> Watch {
+    let next = pass(watch, came);
+    say_slot(next);
+    print::text(b" LastInvalidCode");
+    say_byte(bench::look(next.bench, Item::LastInvalidCode));
+    print::text(b" Ground");
+    say_byte(bench::look(next.bench, Item::Ground));
+    print::text(b" LongCounter");
+    say_long(bench::look(next.bench, Item::LongCounter));
+    print::text(b"\n");
+    next
+}
+
+fn check_too_early() {
+    let fresh = start(b"mistake 1: reading the check byte before frame 21 brings it\n");
+    let sent = with_bench(
+        fresh,
+        cases::send_four(fresh.bench, 0x6402, 0xA401, 0xA400, 0xE415),
+    );
+    let first = check_slot(sent, Slot::Whole);
+    let before = pass_all(first, Slot::Whole, 19);
+    let waiting = check_slot(before, Slot::Whole);
+    let brought = check_slot(waiting, Slot::Whole);
+    let after = check_slot(brought, Slot::Whole);
+    let again = with_bench(
+        after,
+        cases::send_four(after.bench, 0x6302, 0xA303, 0xA313, 0xE346),
+    );
+    let old = check_slot(again, Slot::Whole);
+    let most = pass_all(old, Slot::Whole, 7);
+    let mask = check_slot(most, Slot::Whole);
+    let round = pass_all(mask, Slot::Whole, 20);
+    let oldest = check_slot(round, Slot::Whole);
+    check_slot(oldest, Slot::Whole);
+}
+
+fn two_rounds() {
+    let fresh = start(b"mistake 2: joining a counter from two rounds\n65535 spins\n");
+    let spun = with_bench(fresh, spins(fresh.bench, 65535));
+    let first = counter_slot(spun, Slot::Whole);
+    let second = counter_slot(first, Slot::Whole);
+    print::text(b"one spin\n");
+    let more = with_bench(second, bench::spin(second.bench));
+    let lost = counter_slot(more, Slot::Missed);
+    let all = pass_all(lost, Slot::Missed, 30);
+    let last = counter_slot(all, Slot::Missed);
+    let third = counter_slot(last, Slot::Whole);
+    let fourth = counter_slot(third, Slot::Whole);
+    let round = pass_all(fourth, Slot::Whole, 28);
+    let begun = counter_slot(round, Slot::Whole);
+    let half = counter_slot(begun, Slot::Whole);
+    let nearly = counter_slot(half, Slot::Whole);
+    counter_slot(nearly, Slot::Whole);
+}
+
+fn fill_as_frame_0() {
+    let fresh = start(b"mistake 3: C0h fill taken for frame 0\nground 70h, 5 spins\n");
+    let set = bench::set(fresh.bench, PanelSetting::Ground(0x70));
+    let spun = with_bench(fresh, spins(set, 5));
+    let first = fill_slot(spun, Slot::Whole);
+    let second = fill_slot(first, Slot::Whole);
+    let fill = fill_slot(second, Slot::Fill);
+    let after = fill_slot(fill, Slot::Whole);
+    let round = pass_all(after, Slot::Whole, 31);
+    fill_slot(round, Slot::Whole);
+}
+
+pub fn run() {
+    check_too_early();
+    two_rounds();
+    fill_as_frame_0();
+}
