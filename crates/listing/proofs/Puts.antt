@@ -1,0 +1,52 @@
+-- The laws of `put` and `Puts`: two texts put one after the other are one text put; nothing put; and from the part that is lent to the whole.
+-- Assumes nothing.
+use mathlib.Core.Path.{_≡_, refl, sym, ap, _∙_}
+use mathlib.Core.List.{List, [], _++_, append-assoc, append-nil}
+use Prim.Native.Nat.{ℕ, _+_, _-_, _≤_}
+use native.Mathlib.Nat.{le-of-eq, add-zero, zero-add, add-assoc}
+use native.Mathlib.Omega.{arith}
+use lib.ListN.{length, take, drop, length-append, length-take, length-drop, take-append-drop, drop-of-length-le}
+use lib.Seq.{take-append-seam, drop-append-add, length-take-le, take-all, drop-drop}
+use Rattle.listing.specs.Listing.{put, Puts, atFront}
+
+-- after a list of n elements, a text at n goes behind it
+behind : (x y t : List ℕ) (n : ℕ) → length x ≡ n → take n (x ++ y) ++ (t ++ drop (n + length t) (x ++ y)) ≡ x ++ (t ++ drop (length t) y)
+behind x y t n h = rw (← h) (rw (take-append-seam, drop-append-add))
+
+module _ (at : ℕ) (s p : List ℕ) (room : at + length s ≤ length p) where
+  head-length : length (take at p ++ s) ≡ at + length s
+  head-length = simp (length-append, length-take-le at p (omega arith))
+
+  grouped : put at s p ≡ (take at p ++ s) ++ drop (at + length s) p
+  grouped = sym (append-assoc (take at p) s (drop (at + length s) p))
+
+  pub put-length : length (put at s p) ≡ length p
+  put-length = simp (length-append, length-drop, length-take-le at p (omega arith)) (omega arith)
+
+  put-put : (t : List ℕ) → put (at + length s) t (put at s p) ≡ put at (s ++ t) p
+  put-put t =
+      ap (λ (x : List ℕ). take (at + length s) x ++ (t ++ drop (at + length s + length t) x)) grouped
+      ∙ behind (take at p ++ s) (drop (at + length s) p) t (at + length s) head-length
+      ∙ simp (append-assoc, length-append, drop-drop, add-assoc)
+
+-- two texts, one after the other
+pub chain : {at a b : ℕ} {s t p q r : List ℕ} → Puts at s p a q → Puts a t q b r → at + length s ≤ length p → Puts at (s ++ t) p b r
+chain {at} {a} {b} {s} {t} {p} h k room =
+    record {
+      place = simp length-append (omega arith);
+      content = k .content ∙ rw (h .place, h .content) (put-put at s p room t);
+    }
+
+pub put-nil : (at : ℕ) (p : List ℕ) → Puts at [] p at p
+put-nil at p = record { place = sym (add-zero at); content = rw add-zero (sym (take-append-drop at p)) }
+
+-- a text put at 0 is at the front
+pub front : {s p q : List ℕ} {n : ℕ} → Puts 0 s p n q → (n ≡ length s) × (q ≡ atFront s p)
+front h = (omega arith, rw zero-add at (h .content))
+
+-- what a copy puts at the front of the part from `at` on, said of the whole page
+pub placed : (at : ℕ) (s p : List ℕ) → at + length s ≤ length p
+    → take at p ++ ((s ++ drop (length s) (take (length p - at) (drop at p))) ++ drop (length p - at) (drop at p)) ≡ put at s p
+placed at s p room =
+    rw (take-all (length p - at) (drop at p) (le-of-eq (length-drop at p)))
+    (rw (drop-of-length-le (drop at p) {i = length p - at} (le-of-eq (length-drop at p))) (simp (append-nil, drop-drop)))

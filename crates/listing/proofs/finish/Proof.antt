@@ -1,0 +1,20 @@
+-- `listing::finish` meets its contract: with or without the line of a lone byte before it.
+-- Assumes nothing.
+use borrow.Author.Needs.{needs}
+use native.Mathlib.Omega.{arith}
+use Rattle.listing.proofs.Puts.{chain, front}
+use Rattle.listing.proofs.finish.Statement.{statement}
+use Rattle.listing.proofs.finish.Tie as tie
+
+returns : tie.Need-returns
+returns c =
+    let e = front (c .put-last-line .ensures .0) in
+    simp (c .before .before .enum-told .given .1) (e .0, e .1, omega arith)
+
+returns-2 : tie.Need-returns-2
+returns-2 c =
+    let e = front (chain (c .before .before .put-text .ensures) (c .put-last-line2 .ensures .0) (omega arith)) in
+    simp (c .before .before .before .before .before .enum-told2 .given .1) (e .0, e .1, omega arith)
+
+pub finish-spec : {M : Type 1} → statement M
+finish-spec = tie.close (tie.spec (λ c. search needs) (λ c κs. search needs) (λ c. search needs) (λ c. search needs) (λ c κs. search needs) (λ c κs. search needs) returns returns-2)

@@ -1,0 +1,15 @@
+-- `listing::open` meets its contract: the rig at its start, and the first line at the front.
+-- Assumes nothing.
+use borrow.Author.Needs.{needs}
+use native.Mathlib.Omega.{arith}
+use Rattle.listing.proofs.Puts.{front}
+use Rattle.listing.proofs.open.Statement.{statement}
+use Rattle.listing.proofs.open.Tie as tie
+
+returns : tie.Need-returns
+returns c =
+    let e = front (c .put-text .ensures) in
+    (simp (c .before .before .before .start .ensures, e .0), e .1, omega arith)
+
+pub open-spec : {M : Type 1} → statement M
+open-spec = tie.close (tie.spec (λ c κs. search needs) (λ c. search needs) (λ c κs. search needs) returns)

@@ -1,0 +1,3 @@
+-- The lister's text.
+pub mod Text
+pub mod Listing

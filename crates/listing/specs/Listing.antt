@@ -1,0 +1,85 @@
+-- The whole listing of a stream of bytes (01, "Bench cases"), and what the lister does with each piece of it.
+-- Assumes nothing.
+use Prim.Native.Nat.{ℕ, _+_, _*_}
+use mathlib.Core.Path.{_≡_}
+use mathlib.Core.List.{List, [], _∷_, _++_}
+use lib.ListN.{length, take, drop}
+use Rattle.rig.specs.declared.Rig.{Rig}
+use Rattle.rig.specs.Words.{takeOf}
+use Rattle.rig.specs.Power.{startRig}
+use Rattle.listing.specs.declared.Half.{Half}
+use Rattle.listing.specs.declared.Half.the-variants.{Nothing, High}
+use Rattle.listing.specs.declared.Lister.{Lister}
+use Rattle.listing.specs.declared.Listed.{Listed}
+use Rattle.listing.specs.Text.{firstLine, linesOf, oddLine, lastLine}
+
+-- Words are read high byte first.
+abbrev pub wordOf : ℕ → ℕ → ℕ
+wordOf high low = high * 256 + low
+
+-- From a rig on: the lines of each word in order, as the rig replies to it; a lone last byte prints "odd byte" before the last line. A block that
+-- still waits at the end prints nothing.
+abbrev pub listingFrom : Rig → List ℕ → List ℕ
+listingFrom rig [] = lastLine (rig .faults)
+listingFrom rig (b ∷ []) = oddLine ++ lastLine (rig .faults)
+listingFrom rig (high ∷ low ∷ bytes) =
+    linesOf (wordOf high low) (takeOf rig (wordOf high low) .reply) ++ listingFrom (takeOf rig (wordOf high low) .rig) bytes
+
+-- The listing of a stream: the first line, then the words from the start of the rig on.
+abbrev pub listingOf : List ℕ → List ℕ
+listingOf bytes = firstLine ++ listingFrom startRig bytes
+
+-- The lister has a rig, and the high byte of a word whose low byte has not come.
+abbrev pub lister : Rig → Half → Lister
+lister rig half = record { rig = rig; half = half }
+
+abbrev pub startLister : Lister
+startLister = lister startRig Nothing
+
+-- One byte: it waits for its low byte, or completes a word, whose lines it brings.
+abbrev pub afterHalf : Rig → Half → ℕ → Lister
+afterHalf rig Nothing b = lister rig (High b)
+afterHalf rig (High h) b = lister (takeOf rig (wordOf h b) .rig) Nothing
+
+abbrev pub saidHalf : Rig → Half → ℕ → List ℕ
+saidHalf rig Nothing b = []
+saidHalf rig (High h) b = linesOf (wordOf h b) (takeOf rig (wordOf h b) .reply)
+
+unfoldable pub afterByte : Lister → ℕ → Lister
+afterByte l b = afterHalf (l .rig) (l .half) b
+
+unfoldable pub saidByte : Lister → ℕ → List ℕ
+saidByte l b = saidHalf (l .rig) (l .half) b
+
+-- A piece of the stream: the bytes in order.
+abbrev pub after : Lister → List ℕ → Lister
+after l [] = l
+after l (b ∷ bytes) = after (afterByte l b) bytes
+
+abbrev pub said : Lister → List ℕ → List ℕ
+said l [] = []
+said l (b ∷ bytes) = saidByte l b ++ said (afterByte l b) bytes
+
+-- The end of the stream.
+abbrev pub oddOf : Half → List ℕ
+oddOf Nothing = []
+oddOf (High h) = oddLine
+
+abbrev pub endOf : Lister → List ℕ
+endOf l = oddOf (l .half) ++ lastLine (l .rig .faults)
+
+-- A text at the front of a page; the rest of the page stays as it was.
+abbrev pub atFront : List ℕ → List ℕ → List ℕ
+atFront text page = text ++ drop (length text) page
+
+-- the answer for a text at the front of a page: the lister, and how long the text is
+abbrev pub listed : Lister → List ℕ → Listed
+listed l text = record { lister = l; len = length text }
+
+-- A text put into a page at a place, and the place after it.
+abbrev pub put : ℕ → List ℕ → List ℕ → List ℕ
+put at text page = take at page ++ (text ++ drop (at + length text) page)
+
+pub record Puts (at : ℕ) (text page : List ℕ) (next : ℕ) (filled : List ℕ) : Type 0 where
+  pub place : next ≡ at + length text
+  pub content : filled ≡ put at text page
