@@ -2,3 +2,6 @@
 pub mod Copy
 pub mod Puts
 pub mod Pieces
+pub mod Laws
+pub mod Single
+pub mod Example

@@ -68,6 +68,15 @@ oddOf (High h) = oddLine
 abbrev pub endOf : Lister → List ℕ
 endOf l = oddOf (l .half) ++ lastLine (l .rig .faults)
 
+-- A stream that comes in pieces: the text of each piece, from where the one before left the lister, and then the end.
+abbrev pub joined : List (List ℕ) → List ℕ
+joined [] = []
+joined (piece ∷ pieces) = piece ++ joined pieces
+
+abbrev pub listedFrom : Lister → List (List ℕ) → List ℕ
+listedFrom l [] = endOf l
+listedFrom l (piece ∷ pieces) = said l piece ++ listedFrom (after l piece) pieces
+
 -- A text at the front of a page; the rest of the page stays as it was.
 abbrev pub atFront : List ℕ → List ℕ → List ℕ
 atFront text page = text ++ drop (length text) page

@@ -1,0 +1,37 @@
+-- The lister's law: in whatever pieces a stream comes, the first line, the texts of the pieces and the end are the listing of the stream.
+-- Assumes nothing.
+use mathlib.Core.Path.{_≡_, refl, sym, ap, _∙_}
+use mathlib.Core.List.{List, [], _∷_, _++_, append-assoc}
+use Prim.Native.Nat.{ℕ}
+use Rattle.rig.specs.declared.Rig.{Rig}
+use Rattle.rig.specs.Words.{takeOf}
+use Rattle.rig.specs.Power.{startRig}
+use Rattle.listing.specs.declared.Half.{Half}
+use Rattle.listing.specs.declared.Half.the-variants.{Nothing, High}
+use Rattle.listing.specs.declared.Lister.{Lister}
+use Rattle.listing.specs.Text.{firstLine, linesOf}
+use Rattle.listing.specs.Listing.{wordOf, listingFrom, listingOf, lister, startLister, afterByte, saidByte, after, said, endOf, joined, listedFrom}
+use Rattle.listing.proofs.Pieces.{after-append, said-append}
+
+-- with no byte waiting, and with one
+even : (rig : Rig) (bytes : List ℕ) → said (lister rig Nothing) bytes ++ endOf (after (lister rig Nothing) bytes) ≡ listingFrom rig bytes
+unfolding afterByte saidByte
+even rig [] = refl
+even rig (b ∷ []) = refl
+even rig (h ∷ l ∷ bytes) =
+    append-assoc (linesOf (wordOf h l) (takeOf rig (wordOf h l) .reply)) _ _
+    ∙ ap (λ (r : List ℕ). linesOf (wordOf h l) (takeOf rig (wordOf h l) .reply) ++ r) (even (takeOf rig (wordOf h l) .rig) bytes)
+
+-- a stream in one piece
+pub whole : (bytes : List ℕ) → firstLine ++ (said startLister bytes ++ endOf (after startLister bytes)) ≡ listingOf bytes
+whole bytes = ap (λ (r : List ℕ). firstLine ++ r) (even startRig bytes)
+
+-- pieces are listed as the stream that they make
+together : (l : Lister) (pieces : List (List ℕ)) → listedFrom l pieces ≡ said l (joined pieces) ++ endOf (after l (joined pieces))
+together l [] = refl
+together l (p ∷ pieces) =
+    ap (λ (r : List ℕ). said l p ++ r) (together (after l p) pieces)
+    ∙ rw (said-append, after-append) (sym (append-assoc (said l p) (said (after l p) (joined pieces)) _))
+
+pub in-pieces : (pieces : List (List ℕ)) → firstLine ++ listedFrom startLister pieces ≡ listingOf (joined pieces)
+in-pieces pieces = ap (λ (r : List ℕ). firstLine ++ r) (together startLister pieces) ∙ whole (joined pieces)
