@@ -10,7 +10,7 @@ use lib.ListN.{length, take, getD}
 use lib.Seq.{take-suc, take-all}
 use Rattle.listing.specs.declared.Lister.{Lister}
 use Rattle.listing.specs.declared.Listed.{Listed}
-use Rattle.listing.specs.Listing.{afterByte, saidByte, after, said, listed, atFront, Puts}
+use Rattle.listing.specs.Listing.{afterByte, saidByte, after, said, listed, atFront, Within, Puts}
 use Rattle.listing.proofs.Puts.{front}
 
 pub after-append : (l : Lister) (xs ys : List ℕ) → after l (xs ++ ys) ≡ after (after l xs) ys
@@ -40,7 +40,7 @@ cut n i s e h = go (decLe n 4096)
 abbrev of : Lister → ℕ → Listed
 of l n = record { lister = l; len = n }
 
-pub made : (r : Listed) {l : Lister} {text p q : List ℕ} → r .lister ≡ l → Puts 0 text p (r .len) q → (r ≡ listed l text) × (q ≡ atFront text p)
+pub made : (r : Listed) {l : Lister} {text p q : List ℕ} → r .lister ≡ l → Puts 0 text p (r .len) q → (r ≡ listed l text) × (q ≡ atFront text p) × Within (r .len) q
 made r {l} e h =
     let f = front h in
-    (ap (λ (x : Lister). of x (r .len)) e ∙ ap (λ (n : ℕ). of l n) (f .0), f .1)
+    (ap (λ (x : Lister). of x (r .len)) e ∙ ap (λ (n : ℕ). of l n) (f .0), f .1, f .2)

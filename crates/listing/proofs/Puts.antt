@@ -7,7 +7,7 @@ use native.Mathlib.Nat.{le-of-eq, add-zero, zero-add, add-assoc}
 use native.Mathlib.Omega.{arith}
 use lib.ListN.{length, take, drop, length-append, length-take, length-drop, take-append-drop, drop-of-length-le}
 use lib.Seq.{take-append-seam, drop-append-add, length-take-le, take-all, drop-drop}
-use Rattle.listing.specs.Listing.{put, Puts, atFront}
+use Rattle.listing.specs.Listing.{put, Puts, atFront, Within}
 
 -- after a list of n elements, a text at n goes behind it
 behind : (x y t : List ℕ) (n : ℕ) → length x ≡ n → take n (x ++ y) ++ (t ++ drop (n + length t) (x ++ y)) ≡ x ++ (t ++ drop (length t) y)
@@ -40,9 +40,15 @@ chain {at} {a} {b} {s} {t} {p} h k room =
 pub put-nil : (at : ℕ) (p : List ℕ) → Puts at [] p at p
 put-nil at p = record { place = sym (add-zero at); content = rw add-zero (sym (take-append-drop at p)) }
 
--- a text put at 0 is at the front
-pub front : {s p q : List ℕ} {n : ℕ} → Puts 0 s p n q → (n ≡ length s) × (q ≡ atFront s p)
-front h = (omega arith, rw zero-add at (h .content))
+-- a text put at 0 is at the front, and its length counts bytes of the page
+within : (s p : List ℕ) → Within (length s) (atFront s p)
+within s p = (simp length-append (omega arith), rw take-append-seam)
+
+pub front : {s p q : List ℕ} {n : ℕ} → Puts 0 s p n q → (n ≡ length s) × (q ≡ atFront s p) × Within n q
+front {s} {p} h =
+    let e = rw zero-add at (h .place) in
+    let f = rw zero-add at (h .content) in
+    (e, f, rw (e, f) (within s p))
 
 -- what a copy puts at the front of the part from `at` on, said of the whole page
 pub placed : (at : ℕ) (s p : List ℕ) → at + length s ≤ length p

@@ -1,6 +1,6 @@
 -- The whole listing of a stream of bytes (01, "Bench cases"), and what the lister does with each piece of it.
 -- Assumes nothing.
-use Prim.Native.Nat.{ℕ, _+_, _*_}
+use Prim.Native.Nat.{ℕ, _+_, _*_, _≤_}
 use mathlib.Core.Path.{_≡_}
 use mathlib.Core.List.{List, [], _∷_, _++_}
 use lib.ListN.{length, take, drop}
@@ -80,6 +80,10 @@ listedFrom l (piece ∷ pieces) = said l piece ++ listedFrom (after l piece) pie
 -- A text at the front of a page; the rest of the page stays as it was.
 abbrev pub atFront : List ℕ → List ℕ → List ℕ
 atFront text page = text ++ drop (length text) page
+
+-- n counts bytes at the front of a page. The second part follows from the first; both are what a caller who hands those bytes on has to know.
+abbrev pub Within : ℕ → List ℕ → Type 0
+Within n page = (n ≤ length page) × (n ≡ length (take n page))
 
 -- the answer for a text at the front of a page: the lister, and how long the text is
 abbrev pub listed : Lister → List ℕ → Listed

@@ -5,7 +5,7 @@ ghost use mathlib.Core.List.{_++_};
 ghost use Prim.Native.Nat.{_+_, _*_, _≤_, _<_, min};
 ghost use lib.ListN.{length, take, drop};
 ghost use Rattle.listing.specs.Text.{digit, hexByte, hexWord, decimal, invalid, firstLine, answerText, answerLine, droppedLine, linesOf, lastLine};
-ghost use Rattle.listing.specs.Listing.{startLister, afterByte, saidByte, after, said, endOf, atFront, Puts, listed};
+ghost use Rattle.listing.specs.Listing.{startLister, afterByte, saidByte, after, said, endOf, atFront, Within, Puts, listed};
 use rig::Answer;
 use rig::Faults;
 use rig::Reply;
@@ -161,7 +161,7 @@ fn put_count(n: u8, page: &mut [u8], at: usize) -> usize
 
 fn put_last_line(faults: Faults, page: &mut [u8], at: usize) -> usize
     requires { ⌜ at + 28 ≤ length (now page) ⌝ }
-    ensures { λ r. ⌜ Puts at (lastLine faults) (now (page .entry)) r (now (page .exit)) × (r ≤ at + 28) ⌝ }
+    ensures { λ r. ⌜ Puts at (lastLine faults) (now (page .entry)) r (now (page .exit)) ⌝ }
 {
     let last = put_count(faults.count, page, at);
     let code = put_named(b" last ", faults.last, page, last);
@@ -229,7 +229,7 @@ fn least(n: usize, most: usize) -> usize
 
 // A listing begins: the rig at its start, and the first line on the page.
 pub fn open(page: &mut [u8; 131072]) -> Listed
-    ensures { λ r. ⌜ (r ≡ listed startLister firstLine) × (now (page .exit) ≡ atFront firstLine (now (page .entry))) × (r .len ≤ 131072) ⌝ }
+    ensures { λ r. ⌜ (r ≡ listed startLister firstLine) × (now (page .exit) ≡ atFront firstLine (now (page .entry))) × Within (r .len) (now (page .exit)) ⌝ }
 {
     let rig = rig::power::start();
     let len = put_text(b"word answer\n", page, 0);
@@ -245,7 +245,7 @@ pub fn open(page: &mut [u8; 131072]) -> Listed
 // A piece of the stream, of which n bytes came: their text is put on the page.
 // The page has room for two lines of 16 bytes for each byte of the piece, so a piece of any bytes fits.
 pub fn list(lister: Lister, piece: &[u8; 4096], n: usize, page: &mut [u8; 131072]) -> Listed
-    ensures { λ r. ⌜ (r ≡ listed (after lister (take n (now (piece .entry)))) (said lister (take n (now (piece .entry))))) × (now (page .exit) ≡ atFront (said lister (take n (now (piece .entry)))) (now (page .entry))) × (r .len ≤ 131072) ⌝ }
+    ensures { λ r. ⌜ (r ≡ listed (after lister (take n (now (piece .entry)))) (said lister (take n (now (piece .entry))))) × (now (page .exit) ≡ atFront (said lister (take n (now (piece .entry)))) (now (page .entry))) × Within (r .len) (now (page .exit)) ⌝ }
 {
     let end = least(n, 4096);
     let whole: &[u8] = piece;
@@ -254,7 +254,7 @@ pub fn list(lister: Lister, piece: &[u8; 4096], n: usize, page: &mut [u8; 131072
 
 // The stream has ended: a lone last byte, and the last line.
 pub fn finish(lister: Lister, page: &mut [u8; 131072]) -> usize
-    ensures { λ r. ⌜ (r ≡ length (endOf lister)) × (now (page .exit) ≡ atFront (endOf lister) (now (page .entry))) × (r ≤ 131072) ⌝ }
+    ensures { λ r. ⌜ (r ≡ length (endOf lister)) × (now (page .exit) ≡ atFront (endOf lister) (now (page .entry))) × Within r (now (page .exit)) ⌝ }
 {
     let rig = lister.rig;
     let half = lister.half;

@@ -8,13 +8,13 @@ use Rattle.listing.proofs.finish.Tie as tie
 
 returns : tie.Need-returns
 returns c =
-    let e = front (c .put-last-line .ensures .0) in
-    simp (c .before .before .enum-told .given .1) (e .0, e .1, omega arith)
+    let e = front (c .put-last-line .ensures) in
+    simp (c .before .before .enum-told .given .1) (e .0, e .1, e .2)
 
 returns-2 : tie.Need-returns-2
 returns-2 c =
-    let e = front (chain (c .before .before .put-text .ensures) (c .put-last-line2 .ensures .0) (omega arith)) in
-    simp (c .before .before .before .before .before .enum-told2 .given .1) (e .0, e .1, omega arith)
+    let e = front (chain (c .before .before .put-text .ensures) (c .put-last-line2 .ensures) (omega arith)) in
+    simp (c .before .before .before .before .before .enum-told2 .given .1) (e .0, e .1, e .2)
 
 pub finish-spec : {M : Type 1} → statement M
 finish-spec = tie.close (tie.spec (λ c. search needs) (λ c κs. search needs) (λ c. search needs) (λ c. search needs) (λ c κs. search needs) (λ c κs. search needs) returns returns-2)

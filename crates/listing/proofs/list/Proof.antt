@@ -22,7 +22,7 @@ returns c =
     let f = made (c .run .result) (e .0) (e .1) in
     let least = c .before .before .before .before .least in
     let t = cut (a .n) (least .result) (now (a .piece)) (least .ensures) (c .before .before .before .whole .given .0) in
-    (rw (← t) (f .0), rw (← t) (f .1), omega (arith, simp length-take at (e .2), least .ensures))
+    (rw (← t) (f .0), rw (← t) (f .1), f .2)
 
 pub list-spec : {M : Type 1} → statement M
 list-spec = tie.close (tie.spec (λ c κs. search needs) slice-aggregate-run run-requires returns)

@@ -9,7 +9,7 @@ use Rattle.listing.proofs.open.Tie as tie
 returns : tie.Need-returns
 returns c =
     let e = front (c .put-text .ensures) in
-    (simp (c .before .before .before .start .ensures, e .0), e .1, omega arith)
+    (simp (c .before .before .before .start .ensures, e .0), e .1, e .2)
 
 pub open-spec : {M : Type 1} → statement M
 open-spec = tie.close (tie.spec (λ c κs. search needs) (λ c. search needs) (λ c κs. search needs) returns)

@@ -1,0 +1,91 @@
+// The lister: reads words from standard input, high byte first, and writes each with what the rig answers.
+// Keeps 01 "Bench cases": the lister. What it writes is `listing`'s; it only reads and writes.
+use libc::STDERR_FILENO;
+use libc::STDIN_FILENO;
+use libc::STDOUT_FILENO;
+use listing::Lister;
+
+// How a turn of the reading loop ends: more may come, the input has ended, or a read or a write failed.
+enum Next {
+    More,
+    End,
+    Failed,
+}
+
+struct Turned {
+    lister: Lister,
+    next: Next,
+}
+
+// Says on standard error what failed. The listing then has no last line.
+fn failed(lister: Lister, why: &[u8]) -> Turned {
+    io::write_all(STDERR_FILENO, why);
+    Turned {
+        lister,
+        next: Next::Failed,
+    }
+}
+
+// Reads once and writes the lines of what came.
+fn turn(lister: Lister) -> Turned {
+    let mut piece = [0u8; 4096];
+    let got = libc::read(STDIN_FILENO, &mut piece);
+    if got < 0 {
+        return failed(lister, b"lister: cannot read\n");
+    }
+    if got == 0 {
+        return Turned {
+            lister,
+            next: Next::End,
+        };
+    }
+    let n = io::count(got, &piece);
+    let mut page = [0u8; 131072];
+    let listed = listing::list(lister, &piece, n, &mut page);
+    let after = listed.lister;
+    let len = listed.len;
+    let is_written = io::write_all(STDOUT_FILENO, &page[..len]);
+    if is_written {
+        return Turned {
+            lister: after,
+            next: Next::More,
+        };
+    }
+    failed(after, b"lister: cannot write\n")
+}
+
+// Reads to the end of the input. A proved loop has to end, and nothing says that the input does: so it counts its turns down, from 2^64 - 1.
+fn list_all(lister: Lister) -> Turned {
+    let mut now = Turned {
+        lister,
+        next: Next::More,
+    };
+    let mut turns = u64::MAX;
+    while turns > 0 {
+        let state = now.lister;
+        now = turn(state);
+        let next = now.next;
+        if let Next::More = next {
+            turns -= 1;
+        } else {
+            return now;
+        }
+    }
+    now
+}
+
+fn main() {
+    let mut page = [0u8; 131072];
+    let opened = listing::open(&mut page);
+    let len = opened.len;
+    let start = opened.lister;
+    io::write_all(STDOUT_FILENO, &page[..len]);
+    let ended = list_all(start);
+    let state = ended.lister;
+    let next = ended.next;
+    if let Next::Failed = next {
+        return;
+    }
+    let last = listing::finish(state, &mut page);
+    io::write_all(STDOUT_FILENO, &page[..last]);
+}
