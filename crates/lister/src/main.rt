@@ -79,7 +79,11 @@ fn main() {
     let opened = listing::open(&mut page);
     let len = opened.len;
     let start = opened.lister;
-    io::write_all(STDOUT_FILENO, &page[..len]);
+    let is_begun = io::write_all(STDOUT_FILENO, &page[..len]);
+    if !is_begun {
+        failed(start, b"lister: cannot write\n");
+        return;
+    }
     let ended = list_all(start);
     let state = ended.lister;
     let next = ended.next;
@@ -87,5 +91,8 @@ fn main() {
         return;
     }
     let last = listing::finish(state, &mut page);
-    io::write_all(STDOUT_FILENO, &page[..last]);
+    let is_ended = io::write_all(STDOUT_FILENO, &page[..last]);
+    if !is_ended {
+        failed(state, b"lister: cannot write\n");
+    }
 }
