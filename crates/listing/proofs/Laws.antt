@@ -5,7 +5,7 @@ use mathlib.Core.List.{List, [], _∷_, _++_, append-assoc}
 use Prim.Native.Nat.{ℕ}
 use Rattle.rig.specs.declared.Rig.{Rig}
 use Rattle.rig.specs.Words.{takeOf}
-use Rattle.rig.specs.Power.{startRig}
+use Rattle.rig.specs.Start.{startRig}
 use Rattle.listing.specs.declared.Half.{Half}
 use Rattle.listing.specs.declared.Half.the-variants.{Nothing, High}
 use Rattle.listing.specs.declared.Lister.{Lister}

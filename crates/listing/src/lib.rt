@@ -231,7 +231,7 @@ fn least(n: usize, most: usize) -> usize
 pub fn open(page: &mut [u8; 131072]) -> Listed
     ensures { λ r. ⌜ (r ≡ listed startLister firstLine) × (now (page .exit) ≡ atFront firstLine (now (page .entry))) × Within (r .len) (now (page .exit)) ⌝ }
 {
-    let rig = rig::power::start();
+    let rig = rig::start();
     let len = put_text(b"word answer\n", page, 0);
     Listed {
         lister: Lister {

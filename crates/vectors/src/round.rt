@@ -5,7 +5,7 @@ use super::print;
 use super::slots;
 use bench::Bench;
 use frame::Item;
-use rig::PanelSetting;
+use power::PanelSetting;
 
 // The blocks, the singles, one refusal, and three spins towards the target.
 fn commanded(bench: Bench) -> Bench {

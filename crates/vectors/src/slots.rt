@@ -5,7 +5,7 @@ use super::print;
 use bench::Bench;
 use desk::Shown;
 use frame::Item;
-use rig::PanelSetting;
+use power::PanelSetting;
 
 // What comes in a slot. The rig has built its next frame in each case.
 enum Slot {
