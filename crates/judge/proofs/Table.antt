@@ -65,26 +65,29 @@ row P true f g h = f h
 row P false f g h = g h
 
 module _ (c : Core) (a b : ℕ) (ha : a < 0x100) (hb : b < 0x100) where
-  relay-same : Agree 0x22 a b → relayCmd c a ≡ relayCmd c b
+  relay-same : Agree (named 0x08) a b → relayCmd c a ≡ relayCmd c b
   unfolding relayed
-  relay-same e = simp (reads 0x22 (λ x. x / 2 % 2) tt a b ha hb e, reads 0x22 (λ x. x / 32 % 2) tt a b ha hb e)
+  relay-same e = simp (reads (named 0x08) (λ x. x / 2 % 2) tt a b ha hb e, reads (named 0x08) (λ x. x / 32 % 2) tt a b ha hb e)
 
-  iel-same : Agree 0x03 a b → ielCmd c a ≡ ielCmd c b
-  iel-same e = simp (reads 0x03 (λ x. x % 2) tt a b ha hb e, reads 0x03 (λ x. x / 2 % 2) tt a b ha hb e)
+  iel-same : Agree (named 0x0C) a b → ielCmd c a ≡ ielCmd c b
+  iel-same e = simp (reads (named 0x0C) (λ x. x % 2) tt a b ha hb e, reads (named 0x0C) (λ x. x / 2 % 2) tt a b ha hb e)
 
-  mask-same : Agree 0x07 a b → maskCmd c a ≡ maskCmd c b
-  mask-same e = simp (reads 0x07 (λ x. x % 8) tt a b ha hb e)
+  mask-same : Agree (named 0x26) a b → maskCmd c a ≡ maskCmd c b
+  mask-same e = simp (reads (named 0x26) (λ x. x % 8) tt a b ha hb e)
 
-  target-same : Agree 0x0F a b → targetCmd c a ≡ targetCmd c b
+  target-same : Agree (named 0x28) a b → targetCmd c a ≡ targetCmd c b
   unfolding targeted
-  target-same e = simp (reads 0x0F (λ x. x % 16) tt a b ha hb e)
+  target-same e = simp (reads (named 0x28) (λ x. x % 16) tt a b ha hb e)
 
-  limit-same : Agree 0x0F a b → limitCmd c a ≡ limitCmd c b
+  limit-same : Agree (named 0x29) a b → limitCmd c a ≡ limitCmd c b
   unfolding limited
-  limit-same e = simp (reads 0x0F (λ x. x % 16) tt a b ha hb e)
+  limit-same e = simp (reads (named 0x29) (λ x. x % 16) tt a b ha hb e)
 
-  whole-same : (cmd : Core → ℕ → Verdict) → Agree 0xFF a b → cmd c a ≡ cmd c b
-  whole-same cmd e = ap (cmd c) (reads 0xFF (λ x. x) tt a b ha hb e)
+  mode-same : Agree (named 0x2B) a b → modeCmd c a ≡ modeCmd c b
+  mode-same e = ap (modeCmd c) (reads (named 0x2B) (λ x. x) tt a b ha hb e)
+
+  stepping-same : Agree (named 0x2D) a b → steppingCmd c a ≡ steppingCmd c b
+  stepping-same e = ap (steppingCmd c) (reads (named 0x2D) (λ x. x) tt a b ha hb e)
 
 ignored : (c : Core) (code a b : ℕ) → a < 0x100 → b < 0x100 → Agree (named code) a b → singleOf c code a ≡ singleOf c code b
 unfolding singleOf
@@ -95,26 +98,29 @@ ignored c code a b ha hb =
     row P (eqb code 0x26) (mask-same c a b ha hb) (
     row P (eqb code 0x28) (target-same c a b ha hb) (
     row P (eqb code 0x29) (limit-same c a b ha hb) (
-    row P (eqb code 0x2B) (whole-same c a b ha hb modeCmd) (
-    row P (eqb code 0x2D) (whole-same c a b ha hb steppingCmd) (
+    row P (eqb code 0x2B) (mode-same c a b ha hb) (
+    row P (eqb code 0x2D) (stepping-same c a b ha hb) (
     λ _. refl)))))))
 
 module _ (c : Core) (n a x b y : ℕ) (ha : a < 0x100) (hx : x < 0x100) (hb : b < 0x100) (hy : y < 0x100) where
   abbrev Both : ℕ × ℕ → Type 0
   Both m = Agree (m .0) a b × Agree (m .1) x y
 
-  mux-same : Both (0xFF, 0x01) → muxSet c a x ≡ muxSet c b y
-  mux-same e = simp (reads 0xFF (λ z. z) tt a b ha hb (e .0), reads 0x01 (λ z. z % 2) tt x y hx hy (e .1))
+  mux-same : Both (named2 0x20) → muxSet c a x ≡ muxSet c b y
+  mux-same e = simp (reads (named2 0x20 .0) (λ z. z) tt a b ha hb (e .0), reads (named2 0x20 .1) (λ z. z % 2) tt x y hx hy (e .1))
 
-  window-same : (set : Core → ℕ → ℕ → Core) → ((c : Core) (i j k l : ℕ) → i % 32 ≡ k % 32 → j % 32 ≡ l % 32 → set c i j ≡ set c k l) → Both (0x1F, 0x1F) → set c a x ≡ set c b y
-  window-same set h e = h c a x b y (reads 0x1F (λ z. z % 32) tt a b ha hb (e .0)) (reads 0x1F (λ z. z % 32) tt x y hx hy (e .1))
+  direction-same : Both (named2 0x23) → directionSet c a x ≡ directionSet c b y
+  direction-same e = simp (reads (named2 0x23 .0) (λ z. z % 32) tt a b ha hb (e .0), reads (named2 0x23 .1) (λ z. z % 32) tt x y hx hy (e .1))
+
+  energy-same : Both (named2 0x24) → energySet c a x ≡ energySet c b y
+  energy-same e = simp (reads (named2 0x24 .0) (λ z. z % 32) tt a b ha hb (e .0), reads (named2 0x24 .1) (λ z. z % 32) tt x y hx hy (e .1))
 
   ignored-both : (code : ℕ) → Both (named2 code) → blockOf c code n a x ≡ blockOf c code n b y
   unfolding blockOf
   ignored-both code =
       row Both (eqb code 0x20) (λ e. ap (countedOf n) (mux-same e)) (
-      row Both (eqb code 0x23) (λ e. ap (countedOf n) (window-same directionSet (λ c i j k l p q. simp (p, q)) e)) (
-      row Both (eqb code 0x24) (λ e. ap (countedOf n) (window-same energySet (λ c i j k l p q. simp (p, q)) e)) (
+      row Both (eqb code 0x23) (λ e. ap (countedOf n) (direction-same e)) (
+      row Both (eqb code 0x24) (λ e. ap (countedOf n) (energy-same e)) (
       λ _. refl)))
 
 pub laws : TableLaws
