@@ -16,7 +16,7 @@ use Rattle.block.specs.declared.Layout.the-variants.{Nm, Bm1, Bad}
 use Rattle.block.specs.declared.Part.{Part}
 use Rattle.block.specs.declared.Located.{Located}
 use Rattle.block.specs.declared.Located.the-variants.{At, Refused}
-use Rattle.block.specs.Layout.{marker, bit, dumped, layoutOf}
+use Rattle.block.specs.Layout.{unread, marker, bit, dumped, layoutOf}
 use Rattle.block.specs.Parts.{rowOf, among, opening, hidden, inLayout, locateOf, bytesOf, partOf}
 use Rattle.block.proofs.Laws.{every-part, refused-at, found-is, told, layout-told}
 
@@ -51,11 +51,6 @@ early (Bm1 d1 d2) b p a n t d e =
 pub dumped-early : (b : List ℕ) (p : Part) (a n : ℕ) → dumped b ≡ true → locateOf b p ≡ At a n → a + n ≤ 5
 unfolding locateOf
 dumped-early b p a n d e = early (layoutOf b) b p a n (layout-told b) d e
-
--- descriptor 2 (14Fh in NM, 154h in BM1) and the inner markers' six bytes
-abbrev pub unread : ℕ → Bool
-unread k =
-    eqb k 0x14F || eqb k 0x154 || eqb k 0x212 || eqb k 0x213 || eqb k 0x214 || eqb k 0x475 || eqb k 0x476 || eqb k 0x477
 
 module _ (b c : List ℕ) (n : length b ≡ length c) (d : dumped b ≡ true) where
   pub same-layout : ((k : ℕ) → k < 5 → getD b k 0 ≡ getD c k 0) → layoutOf b ≡ layoutOf c

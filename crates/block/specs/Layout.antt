@@ -38,6 +38,11 @@ dumped b = bit (first b) 2
 abbrev pub second : List ℕ → ℕ → ℕ
 second b at = pick (dumped b) 0 (getD b at 0)
 
+-- descriptor 2 (14Fh in NM, 154h in BM1) and the inner markers' six bytes
+abbrev pub unread : ℕ → Bool
+unread k =
+    eqb k 0x14F || eqb k 0x154 || eqb k 0x212 || eqb k 0x213 || eqb k 0x214 || eqb k 0x475 || eqb k 0x476 || eqb k 0x477
+
 -- in this order: 20 (under 3), 19, 20, 21
 unfoldable pub layoutOf : List ℕ → Layout
 layoutOf b =

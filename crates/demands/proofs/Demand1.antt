@@ -2,22 +2,25 @@
 -- Assumes nothing.
 use mathlib.Core.Path.{_≡_}
 use mathlib.Core.List.{List}
-use Prim.Native.Nat.{ℕ, _+_, _<_}
+use Prim.Native.Nat.{ℕ, _+_, _≤_, _<_}
 use lib.ListN.{length}
-use borrow.Author.Tests.{lt-ltb}
-use Rattle.frame.specs.declared.Wrote.the-variants.{Refused}
+use borrow.Author.Tests.{lt-ltb, le-ltb}
+use Rattle.frame.specs.declared.Wrote.the-variants.{Done, Refused}
 use Rattle.frame.specs.Items.{numbered}
 use Rattle.frame.proofs.Place.{short, room}
 use Rattle.desk.proofs.Laws.{laws as desk-laws}
 use Rattle.rig.specs.declared.Rig.{Rig}
 use Rattle.sending.specs.declared.Built.{Built}
-use Rattle.sending.specs.Sending.{heldOf, nextLatch, builtOf}
+use Rattle.sending.specs.Sending.{heldOf, nextLatch, sent, builtOf}
 use Rattle.laws.proofs.Replies.{reply-laws}
 use Rattle.block.proofs.Order.{order}
 use Rattle.block.proofs.Laws.{part-length, part-none}
 use Rattle.event.proofs.Order.{direct-order, event-order, item-order}
 use Rattle.demands.specs.World.{proved}
 use Rattle.demands.specs.Demand1.{Demand1For}
+
+with-room : (r : Rig) (b : List ℕ) (at : ℕ) → at + 40 ≤ length b → _≡_ {A = Built} (builtOf r b at) (record { rig = sent r; answer = Done })
+with-room r b at h = simp (le-ltb _ _ h)
 
 no-room : (r : Rig) (b : List ℕ) (at : ℕ) → length b < at + 40 → _≡_ {A = Built} (builtOf r b at) (record { rig = r; answer = Refused (numbered 18) })
 no-room r b at h = simp (lt-ltb _ _ h)
@@ -28,7 +31,7 @@ demand-1 =
       words = reply-laws;
       frame17 = λ d f n. desk-laws .refused d f n;
       room18 = λ r b at h. (no-room r b at h, short (heldOf r) (r .sending .next) (nextLatch r) at b h .1);
-      room = λ r b at h. room (heldOf r) (r .sending .next) (nextLatch r) at b h;
+      room = λ r b at h. (with-room r b at h, room (heldOf r) (r .sending .next) (nextLatch r) at b h .1);
       part = order;
       event = direct-order;
       ifftEvent = event-order;

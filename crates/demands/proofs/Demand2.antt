@@ -1,9 +1,20 @@
 -- Demand 2 holds of our rig: the laws of the crates below, gathered.
 -- Assumes nothing.
-use mathlib.Core.Path.{refl}
+use mathlib.Core.Path.{_≡_, refl, _∙_, ap}
+use mathlib.Core.Bool.{true}
+use mathlib.Core.List.{List}
+use Prim.Native.Nat.{ℕ, _<_}
+use native.Mathlib.Nat.{mod-eq-of-lt}
 use Rattle.judge.proofs.Table.{laws as table-laws}
 use Rattle.volts.proofs.Single.{sheet-of-one}
+use Rattle.supply.proofs.Laws.{laws as supply-laws}
+use Rattle.frame.specs.declared.Reading.the-variants.{Value}
+use Rattle.frame.specs.Items.{heldAt}
+use Rattle.frame.specs.Read.{carries, readOf}
 use Rattle.frame.proofs.Laws.{laws as frame-laws}
+use Rattle.sending.specs.Sending.{heldOf, nextLatch}
+use Rattle.bench.specs.Bench.{nextFrame}
+use Rattle.laws.specs.Runs.{Event, ours, reached}
 use Rattle.laws.proofs.Rows.{row-laws}
 use Rattle.laws.proofs.Runs.{run-laws}
 use Rattle.block.proofs.Cover.{nm-cover, bm1-cover}
@@ -12,14 +23,25 @@ use Rattle.event.proofs.Directions.{reader-inverts, gives-back}
 use Rattle.demands.specs.World.{proved}
 use Rattle.demands.specs.Demand2.{Demand2For}
 
+-- what a frame carries reads back modulo its width, and fits it
+shows : (es : List Event) (k : ℕ) → k < 25 → carries k (reached ours es .sending .next) ≡ true
+    → readOf (nextFrame (reached ours es)) k ≡ Value (heldAt (heldOf (reached ours es)) k)
+shows es k l e =
+    let r = reached ours es in
+    frame-laws .back (heldOf r) (r .sending .next) (nextLatch r) k l e ∙ ap Value (mod-eq-of-lt (run-laws .widths es k l))
+
 pub demand-2 : Demand2For proved
 demand-2 =
     record {
       rows = row-laws;
       table = table-laws;
+      start = refl;
+      set = λ r s. refl;
+      supply = supply-laws;
       runs = run-laws;
       frame = λ r. refl;
-      latch = λ r. refl;
+      sent = λ r. refl;
+      shown = shows;
       layout = frame-laws;
       nm = nm-cover;
       bm1 = bm1-cover;

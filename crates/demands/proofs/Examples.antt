@@ -2,6 +2,8 @@
 -- Assumes nothing.
 use mathlib.Core.Path.{_≡_, refl}
 use mathlib.Core.List.{List, [], _∷_, _++_}
+use Prim.Native.Nat.{ℕ}
+use native.Mathlib.Omega.{arith}
 use lib.ListN.{replicate}
 use Rattle.base.specs.Counts.{frames}
 use Rattle.frame.specs.declared.Item.the-variants.{LongCounter}
@@ -10,6 +12,7 @@ use Rattle.frame.specs.Read.{allAre, arrivedOf}
 use Rattle.desk.specs.declared.Shown.{Shown}
 use Rattle.desk.specs.declared.Shown.the-variants.{Unknown, Known}
 use Rattle.desk.specs.Desk.{readingOf, halfAfter, cellsAfter, slotOf}
+use Rattle.demands.specs.Demand3.{TooFew}
 use Rattle.demands.specs.World.{Event, spin, arrives, lost, proved, run, after}
 
 -- the long EDB counter that the desk shows after a run
@@ -17,9 +20,10 @@ abbrev pub see : List Event → Shown
 see es = proved .look (after proved es .desk) LongCounter
 
 -- 34 whole slots are too few: the counter shown is still the one of before the spin
-pub too-few : see (arrives ∷ spin ∷ replicate 34 arrives) ≡ Known 0 (frames 34)
+pub too-few : TooFew proved
 unfolding run slotOf arrivedOf allAre cellsAfter readingOf halfAfter frameOf muxOf quarterOf groundAt
-too-few = refl
+too-few =
+    record { run = arrives ∷ spin ∷ []; item = LongCounter; value = 0; age = frames 34; old = refl; differs = λ (e : _≡_ {A = ℕ} 0 1). omega arith }
 
 -- one more, and it is the present one
 pub just-enough : see (arrives ∷ spin ∷ replicate 35 arrives) ≡ Known 1 (frames 3)

@@ -1,6 +1,6 @@
 -- Each fraud is caught: a rig by one word, a desk by one run after which it shows something else than ours.
 -- Assumes nothing.
-use mathlib.Core.Path.{_≡_, refl, _∙_, ap}
+use mathlib.Core.Path.{_≡_, refl, _∙_, ap, subst}
 use mathlib.Core.List.{List, [], _∷_, _++_}
 use Prim.Native.Nat.{ℕ}
 use native.Mathlib.Omega.{arith}
@@ -27,7 +27,7 @@ use Rattle.demands.specs.World.{Event, set, arrives, lost, run}
 use Rattle.demands.specs.Demand2.{Demand2For}
 use Rattle.demands.specs.Demand3.{Demand3For}
 use Rattle.demands.specs.One.{rigOf}
-use Rattle.demands.specs.Frauds.{RefusesEverything, AnswersAlike, idler, blanker, hoarder, pretender, flatterer, uncounted, Caught}
+use Rattle.demands.specs.Frauds.{Refusing, RefusesEverything, AnswersAlike, idler, blanker, hoarder, pretender, flatterer, uncounted, Caught}
 use Rattle.demands.proofs.One.{one-desk}
 
 settled : (v c : Verdict) → v ≡ c → settledOf startRig 0x26 v .answer ≡ settledOf startRig 0x26 c .answer
@@ -45,10 +45,7 @@ unfolding settledOf kindOf
 refuses take a = ap (λ (t : Taken). t .reply) (a .strayData startRig 0x8000 refl refl)
 
 not-all : (take : Rig → ℕ → Taken) → RefusesEverything take → Demand2For (rigOf take) → ⊥
-not-all take all d =
-    let p = all startRig 0x2600 in
-    let z : _≡_ {A = ℕ} 0 1 = cc (p .1, accepts take (d .rows)) in
-    omega arith
+not-all take all d = subst Refusing (accepts take (d .rows)) (all startRig 0x2600)
 
 not-alike : (take : Rig → ℕ → Taken) → AnswersAlike take → Demand2For (rigOf take) → ⊥
 not-alike take all d =

@@ -4,6 +4,7 @@ use mathlib.Core.Path.{_≡_}
 use mathlib.Core.Bool.{Bool, true, false}
 use mathlib.Core.List.{List, [], _∷_, _++_}
 use Prim.Native.Nat.{ℕ}
+use lib.Ieee.{Float, fin}
 use lib.IntN.{ℤ, pos, negsuc}
 use lib.ListN.{getD, replicate}
 use Rattle.judge.specs.declared.Refusal.the-variants.{RelayOff, Disabled, RelayBits, WrongCheck, WrongCount}
@@ -15,7 +16,8 @@ use Rattle.rig.specs.Words.{takeOf}
 use Rattle.rig.specs.Replies.{refusalsOf}
 use Rattle.rig.specs.Start.{startRig}
 use Rattle.bench.specs.Bench.{nextFrame}
-use Rattle.volts.specs.Volts.{biasOf}
+use Rattle.volts.specs.declared.Sheet.{Sheet}
+use Rattle.volts.specs.Volts.{biasOf, Shows}
 use Rattle.event.specs.Ifft.{itemAt}
 
 -- the rig after some words from the start, and the reply to one word more
@@ -35,8 +37,8 @@ pub data Case : Type 0 where
   check : List ℕ → ℕ → Case
   limit : List ℕ → ℕ → Case
   count : List ℕ → ℕ → Case
-  -- the bias byte is so many 256ths of a volt
-  volts : ℕ → ℤ → Case
+  -- the bias byte is so many 256ths of a volt, and this is the float that the sheet shows
+  volts : ℕ → ℤ → Float → Case
   -- a matrix item whose second word has these two bytes is good, or bad
   item : ℕ → ℕ → Bool → Case
 
@@ -46,7 +48,7 @@ Holds (byte ws k b) = getD (nextFrame (after ws)) k 0 ≡ b
 Holds (check ws k) = after ws .check ≡ k
 Holds (limit ws n) = after ws .core .supply .limit ≡ n
 Holds (count ws n) = after ws .faults .count ≡ n
-Holds (volts d z) = biasOf d ≡ z
+Holds (volts d z x) = (biasOf d ≡ z) × ((g : ℕ) (s : Sheet) → Shows d g s → s .bias ≡ x)
 Holds (item x y g) = itemAt (0 ∷ 0 ∷ x ∷ y ∷ []) 0 .good ≡ g
 
 -- the energy window, the direction window
@@ -79,8 +81,8 @@ cases =
     ∷ count (replicate 255 0x0822) 255
     ∷ count (replicate 255 0x0822 ++ (0x0822 ∷ [])) 0
     -- i. bias 00h: 138.5 V; FFh: -35179/256
-    ∷ volts 0x00 (pos 35456)
-    ∷ volts 0xFF (negsuc 35178)
+    ∷ volts 0x00 (pos 35456) (fin false 277 (negsuc 0))  -- 277 × 2^-1
+    ∷ volts 0xFF (negsuc 35178) (fin true 35179 (negsuc 7))  -- -35179 × 2^-8
     -- j. 6402 then 0802: 03h, then accepted
     ∷ reply (0x6402 ∷ []) 0x0802 (Dropped Accepted) (0x03 ∷ [])
     -- k. 4450: 0Eh; 444F waits

@@ -5,14 +5,12 @@ use mathlib.Core.Path.{_≡_}
 use mathlib.Core.List.{List, [], _++_}
 use Prim.Native.Nat.{ℕ, _+_, _≤_, _<_}
 use lib.ListN.{length, take, drop}
-use Rattle.frame.specs.declared.Wrote.the-variants.{Done}
 use Rattle.frame.specs.declared.Wrote.the-variants as wrote
 use Rattle.frame.specs.Items.{numbered}
 use Rattle.desk.specs.declared.Desk.{Desk}
 use Rattle.desk.specs.declared.Answer.the-variants as desk
 use Rattle.desk.specs.Laws.{answered}
 use Rattle.rig.specs.declared.Rig.{Rig}
-use Rattle.sending.specs.Sending.{builtOf, filledOf}
 use Rattle.laws.specs.Replies.{ReplyLaws}
 use Rattle.block.specs.declared.Part.{Part}
 use Rattle.block.specs.declared.Refusal.{Refusal}
@@ -31,10 +29,10 @@ pub record Demand1For (o : Outfit) : Type 0 where
   pub frame17 : (d : Desk) (f : List ℕ) → (length f ≡ 40 → ⊥) → o .slot d f ≡ answered (desk.Refused (numbered 17)) d
   -- 18, fewer than 40 bytes from the named place on, or the place past the end: nothing changes in the rig or the buffer, no frame is used up
   pub room18 : (r : Rig) (b : List ℕ) (at : ℕ) → length b < at + 40
-      → (builtOf r b at ≡ record { rig = r; answer = wrote.Refused (numbered 18) }) × (filledOf r b at ≡ b)
-  -- with room, the frame stands at the named place and the bytes outside stay the same
+      → (o .build r b at ≡ record { rig = r; answer = wrote.Refused (numbered 18) }) × (o .filled r b at ≡ b)
+  -- with room, the frame stands at the named place, the bytes outside stay the same, and one frame is used up
   pub room : (r : Rig) (b : List ℕ) (at : ℕ) → at + 40 ≤ length b
-      → (builtOf r b at .answer ≡ Done) × (filledOf r b at ≡ take at b ++ (o .frame r ++ drop (at + 40) b))
+      → (o .build r b at ≡ record { rig = o .rig .sent r; answer = wrote.Done }) × (o .filled r b at ≡ take at b ++ (o .frame r ++ drop (at + 40) b))
   -- 19 to 24, of any bytes, in 01's order: the first whose condition holds; 0 stands for an answer that is no refusal
   pub part : (b : List ℕ) (p : Part) → numberIn (locateOf b p) ≡ firstOf (partRefusals b p)
   pub event : (b : List ℕ) (n : ℕ) → eventNumber (directOf b n) ≡ firstOf (directRefusals b n)

@@ -6,20 +6,26 @@ use mathlib.Core.List.{List}
 use Prim.Native.Nat.{ℕ, _<_}
 use lib.Dec.{T}
 use lib.ListN.{length, getD}
+use Rattle.supply.specs.Laws.{SupplyLaws}
 use Rattle.judge.specs.Table.{TableLaws}
 use Rattle.volts.specs.declared.Sheet.{Sheet}
 use Rattle.volts.specs.Volts.{Shows}
 use Rattle.frame.specs.Write.{latchOf, frameOf}
+use Rattle.frame.specs.declared.Reading.the-variants.{Value}
+use Rattle.frame.specs.Items.{heldAt}
+use Rattle.frame.specs.Read.{carries, readOf}
 use Rattle.frame.specs.Laws.{Laws}
 use Rattle.rig.specs.declared.Rig.{Rig}
-use Rattle.sending.specs.Sending.{heldOf}
+use Rattle.rig.specs.Start.{startRig}
+use Rattle.power.specs.declared.PanelSetting.{PanelSetting}
+use Rattle.power.specs.Power.{setOf}
+use Rattle.sending.specs.Sending.{heldOf, sent}
 use Rattle.laws.specs.Rows.{RowLaws}
-use Rattle.laws.specs.Runs.{RunLaws}
+use Rattle.laws.specs.Runs.{Event, reached, RunLaws}
 use Rattle.block.specs.declared.Part.{Part}
-use Rattle.block.specs.Layout.{dumped}
+use Rattle.block.specs.Layout.{dumped, unread}
 use Rattle.block.specs.Parts.{locateOf, partOf}
 use Rattle.block.specs.Cover.{holders, nmHeld, bm1Held}
-use Rattle.block.proofs.Unread.{unread}
 use Rattle.event.specs.declared.Direction.{Direction}
 use Rattle.event.specs.Event.{dOf, hasD, directionOf}
 use Rattle.demands.specs.World.{Outfit}
@@ -29,11 +35,21 @@ pub record Demand2For (o : Outfit) : Type 0 where
   pub rows : RowLaws (o .rig .take)
   -- the numbers of the refusals, the lists of codes, the bits that are read
   pub table : TableLaws
+  -- the start, as 01 lists it; a setting by the instructor moves that part of the panel alone
+  pub start : o .rig .start ≡ startRig
+  pub set : (r : Rig) (s : PanelSetting) → o .rig .set r s ≡ setOf r s
+  -- one supply: its commands, its spins, how far they bring the level
+  pub supply : SupplyLaws
   -- over every run: counts, codes, last check, long EDB counter, the bounds of every field; and for every rig, what a spin and a power cut do
   pub runs : RunLaws (o .rig)
   -- a frame shows what the rig holds as it is built; a spread number is latched at its first frame and written from the latch
   pub frame : (r : Rig) → o .frame r ≡ frameOf (heldOf r) (r .sending .next) (latchOf (heldOf r) (r .sending .next) (r .sending .latch))
-  pub latch : (r : Rig) → o .rig .sent r .sending .latch ≡ latchOf (heldOf r) (r .sending .next) (r .sending .latch)
+  -- building it moves the index, modulo 32, and the latch, and nothing else
+  pub sent : (r : Rig) → o .rig .sent r ≡ sent r
+  -- accepted settings show in the next frame that carries them: of every rig that a run has reached, each plain item that the frame carries is read
+  -- back as it is held
+  pub shown : (es : List Event) (k : ℕ) → k < 25 → carries k (reached (o .rig) es .sending .next) ≡ true
+      → readOf (o .frame (reached (o .rig) es)) k ≡ Value (heldAt (heldOf (reached (o .rig) es)) k)
   -- what is written is what is read, item by item, and nothing else is told
   pub layout : Laws
   -- blocks: every byte of an NM and of a BM1 block lies in exactly one part, inner marker or spare

@@ -2,6 +2,7 @@
 -- Fresh rig, fresh desk, any run of words, spins, settings, power cuts and frames, each slot reaching the desk in order, whole or missed. Assumes nothing.
 use mathlib.Core.Path.{_≡_}
 use mathlib.Core.List.{List}
+use Prim.Native.Nat.{ℕ}
 use lib.ListN.{replicate}
 use Rattle.base.specs.declared.Frames.{Frames}
 use Rattle.base.specs.Counts.{frames}
@@ -26,3 +27,12 @@ pub record Demand3For (o : Outfit) : Type 0 where
   -- After 35 whole slots with nothing else happening every item is shown and equals the rig's present one.
   pub round : (es : List Event) (item : Item)
       → (age : Frames) × (o .look (thenWhole o es enough .desk) item ≡ Known (held (thenWhole o es enough .rig) (rowOf item)) age)
+
+-- 34 are not enough: there is a run after which, 34 whole slots later, some item that is shown is not the rig's present one.
+pub record TooFew (o : Outfit) : Type 0 where
+  pub run : List Event
+  pub item : Item
+  pub value : ℕ
+  pub age : Frames
+  pub old : o .look (thenWhole o run (frames 34) .desk) item ≡ Known value age
+  pub differs : value ≡ held (thenWhole o run (frames 34) .rig) (rowOf item) → ⊥

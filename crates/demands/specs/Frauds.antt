@@ -17,7 +17,8 @@ use Rattle.desk.specs.Desk.{bornAt, freshDesk, slotOf, missedOf, shows}
 use Rattle.judge.specs.declared.Refusal.{Refusal}
 use Rattle.rig.specs.declared.Rig.{Rig}
 use Rattle.rig.specs.declared.Answer.the-variants as answer
-use Rattle.rig.specs.declared.Reply.the-variants.{Plain}
+use Rattle.rig.specs.declared.Reply.{Reply}
+use Rattle.rig.specs.declared.Reply.the-variants.{Plain, Swallowed, Dropped}
 use Rattle.rig.specs.declared.Taken.{Taken}
 use Rattle.rig.specs.Words.{withFaults, takeOf}
 use Rattle.demands.specs.World.{Outfit}
@@ -29,8 +30,17 @@ abbrev pub ours-look : Desk → Item → Shown
 ours-look d item = shows d (rowOf item)
 
 -- 1. a rig that refuses everything, whatever its grounds
+abbrev pub Refusing : Reply → Type 0
+Refusing (Plain answer.Accepted) = ⊥
+Refusing (Plain answer.Waiting) = ⊥
+Refusing (Plain (answer.Refused why)) = Unit {0}
+Refusing Swallowed = Unit {0}
+Refusing (Dropped answer.Accepted) = ⊥
+Refusing (Dropped answer.Waiting) = ⊥
+Refusing (Dropped (answer.Refused why)) = Unit {0}
+
 abbrev pub RefusesEverything : (Rig → ℕ → Taken) → Type 0
-RefusesEverything take = (r : Rig) (w : ℕ) → (why : Refusal) × (take r w .reply ≡ Plain (answer.Refused why))
+RefusesEverything take = (r : Rig) (w : ℕ) → Refusing (take r w .reply)
 
 -- or answers every word alike
 abbrev pub AnswersAlike : (Rig → ℕ → Taken) → Type 0

@@ -1,4 +1,4 @@
--- The demands leave one rig and one desk: whatever meets them answers every word, and shows every item, as ours does. This is how they catch a fraud: one
+-- The demands leave one rig and one desk (01, "How tight each promise is"): whatever meets them answers every word, and shows every item, as ours does. This is how they catch a fraud: one
 -- word, or one slot, at which the fraud differs from ours is enough. Assumes nothing.
 use mathlib.Core.Path.{_≡_}
 use mathlib.Core.List.{List}
@@ -12,7 +12,7 @@ use Rattle.rig.specs.declared.Taken.{Taken}
 use Rattle.rig.specs.Words.{takeOf}
 use Rattle.rig.specs.Start.{startRig}
 use Rattle.power.specs.Power.{spunOf, setOf, cutOf}
-use Rattle.sending.specs.Sending.{sent}
+use Rattle.sending.specs.Sending.{sent, builtOf, filledOf}
 use Rattle.bench.specs.Bench.{nextFrame}
 use Rattle.laws.specs.Runs.{ours}
 use Rattle.demands.specs.History.{Slot, Told}
@@ -23,7 +23,7 @@ use Rattle.demands.specs.Demand3.{Demand3For}
 
 -- our rig with the functions of any desk
 abbrev pub deskOf : Desk → (Desk → List ℕ → Received) → (Desk → Desk) → (Desk → Item → Shown) → Outfit
-deskOf fresh slot missed look = record { rig = ours; frame = nextFrame; fresh = fresh; slot = slot; missed = missed; look = look }
+deskOf fresh slot missed look = record { rig = ours; frame = nextFrame; build = builtOf; filled = filledOf; fresh = fresh; slot = slot; missed = missed; look = look }
 
 -- ours with any function that takes words
 abbrev pub rigOf : (Rig → ℕ → Taken) → Outfit
@@ -31,6 +31,8 @@ rigOf take =
     record {
       rig = record { start = startRig; take = take; spin = spunOf; set = setOf; cut = cutOf; sent = sent };
       frame = nextFrame;
+      build = builtOf;
+      filled = filledOf;
       fresh = proved .fresh;
       slot = proved .slot;
       missed = proved .missed;

@@ -12,7 +12,8 @@ use Rattle.desk.specs.declared.Received.{Received}
 use Rattle.desk.specs.Desk.{freshDesk, slotOf, missedOf, shows}
 use Rattle.power.specs.declared.PanelSetting.{PanelSetting}
 use Rattle.rig.specs.declared.Rig.{Rig}
-use Rattle.sending.specs.Sending.{builtOf}
+use Rattle.sending.specs.declared.Built.{Built}
+use Rattle.sending.specs.Sending.{builtOf, filledOf}
 use Rattle.bench.specs.Bench.{nextFrame}
 use Rattle.laws.specs.Runs.{FitsPanel, Machine, ours}
 use Rattle.demands.specs.History.{Slot, missed, whole}
@@ -20,7 +21,10 @@ use Rattle.demands.specs.History.{Slot, missed, whole}
 -- The functions of a rig and a desk. The demands are said of any such.
 pub record Outfit : Type 0 where
   pub rig : Machine
+  -- the next frame; what building it at a place of a buffer answers, and what the buffer then holds
   pub frame : Rig → List ℕ
+  pub build : Rig → List ℕ → ℕ → Built
+  pub filled : Rig → List ℕ → ℕ → List ℕ
   pub fresh : Desk
   pub slot : Desk → List ℕ → Received
   pub missed : Desk → Desk
@@ -32,6 +36,8 @@ proved =
     record {
       rig = ours;
       frame = nextFrame;
+      build = builtOf;
+      filled = filledOf;
       fresh = freshDesk;
       slot = slotOf;
       missed = missedOf;
@@ -97,7 +103,7 @@ module _ (o : Outfit) where
   next w idle = unbuilt w (o .missed (w .desk))
   next w idleC0 = unbuilt w (o .slot (w .desk) fillC0 .desk)
   next w idleFF = unbuilt w (o .slot (w .desk) fillFF .desk)
-  next w (noRoom b at h) = withRig w (builtOf (w .rig) b at .rig)
+  next w (noRoom b at h) = withRig w (o .build (w .rig) b at .rig)
   next w (torn f h) = record { rig = w .rig; desk = o .slot (w .desk) f .desk; past = w .past }
 
   unfoldable pub run : World → List Event → World
