@@ -1,5 +1,5 @@
 -- A rig and a desk together: each thing that happens moves one of them by its own rule, and a frame built and heard moves both.
--- Keeps 01 whole; the rules are those of `rig` and `desk`. Assumes nothing.
+-- Keeps 01 whole; the rules are those of `rig`, `power`, `sending` and `desk`. Assumes nothing.
 use Prim.Native.Nat.{ℕ}
 use mathlib.Core.List.{List}
 use Rattle.frame.specs.declared.Wrote.{Wrote}

@@ -1,4 +1,4 @@
--- Which bytes of a block are held by what (G 2.1): the parts, BM1's two inner markers, and its two spare bytes.
+-- Which bytes of a block are held by what (01, "Data blocks"; G 2.1): the parts, BM1's two inner markers, and its two spare bytes.
 -- Assumes nothing.
 use mathlib.Core.Bool.{_&&_}
 use mathlib.Core.List.{List, [], _∷_, _++_}

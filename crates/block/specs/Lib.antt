@@ -1,4 +1,4 @@
--- What the promises of this crate say: Refusals, Layout, Parts. Cover and Order state laws; Steps is for private helpers alone.
+-- What the promises of this crate say: Refusals, Layout, Parts. Cover and Order state laws; Steps is for private functions alone.
 pub mod Refusals
 pub mod Layout
 pub mod Parts

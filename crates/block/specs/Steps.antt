@@ -1,4 +1,4 @@
--- What the private helpers do: the cases of `layoutOf` and of `locateOf`. No promise cites this.
+-- What the private functions do: the cases of `layoutOf` and of `locateOf` (01, "Data blocks"). No promise cites this.
 -- Assumes nothing.
 use mathlib.Core.Bool.{Bool, false, not, _||_}
 use mathlib.Core.List.{List}

@@ -31,7 +31,7 @@ abbrev pub latestOf : Shown → Shown → Shown
 latestOf (Known v a) old = Known v a
 latestOf Unknown old = agedOf old
 
--- the bytes so far with byte b of the frame of index i; "an index that isn't the next one discards a half-read spread number"
+-- the bytes so far (their low 24 bits, so that four never pass 32) with byte b of the frame of index i; "an index that isn't the next one discards a half-read spread number"
 abbrev pub joined : Half → ℕ → ℕ → Shown
 joined Nothing i b = Unknown
 joined (Part n acc) i b = pick (eqb n i) (Known (acc % 0x1000000 * 256 + b) (frames 0)) Unknown

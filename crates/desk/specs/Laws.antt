@@ -1,4 +1,4 @@
--- What a slot does to a desk, for every desk and all bytes, said beside `slotOf` in 01's own terms.
+-- What a slot does to a desk, for every desk and all bytes (01, "The 40-byte frame", the paragraph on the desk).
 -- Assumes nothing.
 use mathlib.Core.Path.{_≡_}
 use mathlib.Core.List.{List}

@@ -1,4 +1,4 @@
--- What is true of every frame, said once over the rows: what is written is what is read, and nothing else is told.
+-- What is true of every frame (01, "The 40-byte frame"), said once over the rows: what is written is what is read, and nothing else is told.
 -- The bytes (`frameOf`) and the table (`rows`) are written apart; these laws tie them. Assumes nothing.
 use mathlib.Core.Path.{_≡_}
 use mathlib.Core.Bool.{Bool, true, false}

@@ -14,7 +14,7 @@ use Rattle.rig.specs.declared.Answer.the-variants.{Accepted, Waiting, Refused}
 use Rattle.rig.specs.declared.Reply.{Reply}
 use Rattle.rig.specs.declared.Reply.the-variants.{Plain, Swallowed, Dropped}
 use Rattle.rig.specs.declared.Taken.{Taken}
-use Rattle.rig.specs.Words.{highOf, lowOf, kindOf, newBlock, oneMore, closes, checkOf, dropped}
+use Rattle.rig.specs.Words.{dropNumber, highOf, lowOf, kindOf, newBlock, oneMore, closes, checkOf, dropped}
 use Rattle.rig.specs.Replies.{refusalsOf}
 
 -- a refusal of that number, booked under that high byte
@@ -23,7 +23,7 @@ booked f high number = record { error = number; last = high; count = (f .count +
 
 -- 03h, booked under the dropped head's byte
 abbrev pub bookedDrop : Rig → Faults
-bookedDrop r = booked (r .faults) (r .pending .head) 0x03
+bookedDrop r = booked (r .faults) (r .pending .head) dropNumber
 
 -- what no word ever moves
 pub record Apart (r q : Rig) : Type 0 where

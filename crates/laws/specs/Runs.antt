@@ -19,7 +19,7 @@ use Rattle.rig.specs.declared.Answer.the-variants.{Accepted, Waiting, Refused}
 use Rattle.rig.specs.declared.Reply.{Reply}
 use Rattle.rig.specs.declared.Reply.the-variants.{Plain, Swallowed, Dropped}
 use Rattle.rig.specs.declared.Taken.{Taken}
-use Rattle.rig.specs.Words.{highOf, nothingPending, checkOf, takeOf}
+use Rattle.rig.specs.Words.{dropNumber, highOf, nothingPending, checkOf, takeOf}
 use Rattle.rig.specs.Replies.{refusalsOf}
 use Rattle.rig.specs.Start.{startRig}
 use Rattle.power.specs.Power.{spunOf, cutOf, setOf}
@@ -50,7 +50,7 @@ pub record Machine : Type 0 where
   pub cut : Rig → Rig
   pub sent : Rig → Rig
 
--- ours: the definitions that the functions of crate `rig` are proved to meet
+-- ours: the definitions that the functions of `rig`, `power` and `sending` are proved to meet
 abbrev pub ours : Machine
 ours = record { start = startRig; take = takeOf; spin = spunOf; set = setOf; cut = cutOf; sent = sent }
 
@@ -87,9 +87,9 @@ abbrev pub latestError : ℕ → Reply → ℕ
 latestError old (Plain Accepted) = old
 latestError old (Plain Waiting) = old
 latestError old (Plain (Refused why)) = numberOf why
-latestError old Swallowed = 0x03
-latestError old (Dropped Accepted) = 0x03
-latestError old (Dropped Waiting) = 0x03
+latestError old Swallowed = dropNumber
+latestError old (Dropped Accepted) = dropNumber
+latestError old (Dropped Waiting) = dropNumber
 latestError old (Dropped (Refused why)) = numberOf why
 
 abbrev pub latestCode : ℕ → Rig → ℕ → Reply → ℕ

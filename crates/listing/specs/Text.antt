@@ -5,7 +5,7 @@ use mathlib.Core.List.{List, [], _∷_, _++_}
 use lib.Dec.{ltb}
 use Rattle.base.specs.Pick.{pick}
 use Rattle.judge.specs.Refusals.{numberOf}
-use Rattle.rig.specs.Words.{highOf, lowOf}
+use Rattle.rig.specs.Words.{dropNumber, highOf, lowOf}
 use Rattle.rig.specs.declared.Answer.{Answer}
 use Rattle.rig.specs.declared.Answer.the-variants.{Accepted, Waiting, Refused}
 use Rattle.rig.specs.declared.Reply.{Reply}
@@ -71,7 +71,7 @@ answerLine word a = hexWord word ++ answerText a ++ lineFeed
 
 -- the line of a word that dropped a block: the new word with "dropped 03"
 abbrev pub droppedLine : ℕ → List ℕ
-droppedLine word = hexWord word ++ dropped ++ hexByte 0x03 ++ lineFeed
+droppedLine word = hexWord word ++ dropped ++ hexByte dropNumber ++ lineFeed
 
 -- A dropped block first prints the new word with "dropped 03"; a swallowed word prints only that.
 abbrev pub linesOf : ℕ → Reply → List ℕ

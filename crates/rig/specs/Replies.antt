@@ -7,6 +7,7 @@ use Rattle.rig.specs.declared.Answer.{Answer}
 use Rattle.rig.specs.declared.Answer.the-variants.{Accepted, Waiting, Refused}
 use Rattle.rig.specs.declared.Reply.{Reply}
 use Rattle.rig.specs.declared.Reply.the-variants.{Plain, Swallowed, Dropped}
+use Rattle.rig.specs.Words.{dropNumber}
 
 abbrev pub answerRefusals : Answer → List ℕ
 answerRefusals Accepted = []
@@ -16,5 +17,5 @@ answerRefusals (Refused why) = numberOf why ∷ []
 -- a dropped block is 03h, and the word judged afresh may be refused as well
 abbrev pub refusalsOf : Reply → List ℕ
 refusalsOf (Plain a) = answerRefusals a
-refusalsOf Swallowed = 0x03 ∷ []
-refusalsOf (Dropped a) = 0x03 ∷ answerRefusals a
+refusalsOf Swallowed = dropNumber ∷ []
+refusalsOf (Dropped a) = dropNumber ∷ answerRefusals a

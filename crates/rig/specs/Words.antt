@@ -115,8 +115,11 @@ plain j = record { rig = j .rig; reply = Plain (j .answer) }
 abbrev pub afterDrop : Judgement → Taken
 afterDrop j = record { rig = j .rig; reply = Dropped (j .answer) }
 
+abbrev pub dropNumber : ℕ
+dropNumber = 0x03
+
 abbrev pub dropped : Rig → Rig
-dropped r = refusedOf (withPending r nothingPending) (r .pending .head) 0x03
+dropped r = refusedOf (withPending r nothingPending) (r .pending .head) dropNumber
 
 unfoldable pub droppedOf : Rig → Kind → ℕ → ℕ → Taken
 droppedOf r Single high low = afterDrop (freshOf (dropped r) Single high low)
