@@ -29,7 +29,7 @@ fn say(reply: Reply) {
 }
 
 // A word sent, with its line.
-pub fn send(bench: Bench, word: u16) -> Bench {
+pub(crate) fn send(bench: Bench, word: u16) -> Bench {
     let worded = bench::word(bench, word);
     print::text(b"word ");
     print::word(word);
@@ -39,7 +39,7 @@ pub fn send(bench: Bench, word: u16) -> Bench {
     worded.bench
 }
 
-pub fn send_four(bench: Bench, head: u16, first: u16, second: u16, end: u16) -> Bench {
+pub(crate) fn send_four(bench: Bench, head: u16, first: u16, second: u16, end: u16) -> Bench {
     send(send(send(send(bench, head), first), second), end)
 }
 
@@ -193,7 +193,7 @@ fn items() {
     show_item(&b, 2);
 }
 
-pub fn run() {
+pub(crate) fn run() {
     blocks();
     singles();
     readings();

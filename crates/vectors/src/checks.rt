@@ -10,7 +10,7 @@ fn one(s: &[u8]) {
     print::text(b"\n");
 }
 
-pub fn run() {
+pub(crate) fn run() {
     print::text(b"the check\n");
     one(b"123456789");
     one(b"\x01\x00");

@@ -105,7 +105,7 @@ fn lengths() {
     hand(ff, b"39 bytes C0h and one C1h", &nearly);
 }
 
-pub fn run() {
+pub(crate) fn run() {
     rooms();
     lengths();
 }

@@ -2,7 +2,7 @@
 // Nothing of 01 is decided here.
 ghost use Prim.Native.Nat.{_<_};
 
-pub fn text(s: &[u8]) {
+pub(crate) fn text(s: &[u8]) {
     io::write_all(1, s);
 }
 
@@ -16,39 +16,39 @@ fn digit(d: u8) -> u8
 }
 
 // Two hex digits.
-pub fn pair(b: u8) {
+pub(crate) fn pair(b: u8) {
     let t = [digit(b / 16), digit(b % 16)];
     text(&t);
 }
 
 // A byte as 01 writes it: 0Bh.
-pub fn byte(b: u8) {
+pub(crate) fn byte(b: u8) {
     pair(b);
     text(b"h");
 }
 
-pub fn word(w: u16) {
+pub(crate) fn word(w: u16) {
     pair((w / 256) as u8);
     pair((w % 256) as u8);
 }
 
 // Eight hex digits: 00010000h.
-pub fn long(n: u32) {
+pub(crate) fn long(n: u32) {
     word((n / 65536) as u16);
     word((n % 65536) as u16);
     text(b"h");
 }
 
-pub fn number(n: u64) {
+pub(crate) fn number(n: u64) {
     io::print_decimal(1, n);
 }
 
-pub fn small(n: u8) {
+pub(crate) fn small(n: u8) {
     number(n as u64);
 }
 
 // Each byte with a blank before it.
-pub fn bytes(s: &[u8]) {
+pub(crate) fn bytes(s: &[u8]) {
     let mut i: usize = 0;
     while i < s.len() {
         text(b" ");
@@ -58,7 +58,7 @@ pub fn bytes(s: &[u8]) {
 }
 
 // The bytes from one place to another, where there are so many.
-pub fn part(s: &[u8], from: usize, end: usize) {
+pub(crate) fn part(s: &[u8], from: usize, end: usize) {
     if from <= end {
         if end <= s.len() {
             bytes(&s[from..end]);

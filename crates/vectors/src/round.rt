@@ -94,7 +94,7 @@ fn show_all(bench: Bench) {
     show_long(bench, b"FreeTime", Item::FreeTime);
 }
 
-pub fn run() {
+pub(crate) fn run() {
     print::text(b"a round of frames\n66048 spins\n");
     let spun = slots::spins(bench::fresh(), 66048);
     let set = paneled(commanded(spun));

@@ -22,7 +22,7 @@ struct Watch {
     came: Slot,
 }
 
-pub fn say_byte(shown: Shown) {
+pub(crate) fn say_byte(shown: Shown) {
     match shown {
         Shown::Unknown => print::text(b" unknown"),
         Shown::Known(v, age) => {
@@ -34,7 +34,7 @@ pub fn say_byte(shown: Shown) {
     }
 }
 
-pub fn say_long(shown: Shown) {
+pub(crate) fn say_long(shown: Shown) {
     match shown {
         Shown::Unknown => print::text(b" unknown"),
         Shown::Known(v, age) => {
@@ -97,7 +97,7 @@ fn pass_all(watch: Watch, came: Slot, times: u32) -> Watch {
     r
 }
 
-pub fn spins(bench: Bench, times: u32) -> Bench {
+pub(crate) fn spins(bench: Bench, times: u32) -> Bench {
     let mut b = bench;
     let mut i: u32 = 0;
     while i < times {
@@ -213,7 +213,7 @@ fn fill_as_frame_0() {
     fill_slot(round, Slot::Whole);
 }
 
-pub fn run() {
+pub(crate) fn run() {
     check_too_early();
     two_rounds();
     fill_as_frame_0();
