@@ -3,17 +3,19 @@
 use mathlib.Core.Path.{_≡_, refl, sym, ap, _∙_}
 use mathlib.Core.List.{List, [], _∷_, _++_, append-assoc}
 use Prim.Native.Nat.{ℕ}
+use lib.ListN.{length, take, drop}
+use lib.Seq.{take-append-seam}
 use Rattle.rig.specs.declared.Rig.{Rig}
 use Rattle.rig.specs.Words.{takeOf}
 use Rattle.rig.specs.Start.{startRig}
-use Rattle.listing.specs.declared.Half.{Half}
-use Rattle.listing.specs.declared.Half.the-variants.{Nothing, High}
+use Rattle.listing.specs.declared.Half.the-variants.{Nothing}
 use Rattle.listing.specs.declared.Lister.{Lister}
 use Rattle.listing.specs.Text.{firstLine, linesOf}
 use Rattle.listing.specs.Listing.{wordOf, listingFrom, listingOf, lister, startLister, afterByte, saidByte, after, said, endOf, joined, listedFrom}
+use Rattle.listing.specs.Page.{atFront}
 use Rattle.listing.proofs.Pieces.{after-append, said-append}
 
--- with no byte waiting, and with one
+-- a stream that begins with no byte waiting
 even : (rig : Rig) (bytes : List ℕ) → said (lister rig Nothing) bytes ++ endOf (after (lister rig Nothing) bytes) ≡ listingFrom rig bytes
 unfolding afterByte saidByte
 even rig [] = refl
@@ -25,6 +27,10 @@ even rig (h ∷ l ∷ bytes) =
 -- a stream in one piece
 pub whole : (bytes : List ℕ) → firstLine ++ (said startLister bytes ++ endOf (after startLister bytes)) ≡ listingOf bytes
 whole bytes = ap (λ (r : List ℕ). firstLine ++ r) (even startRig bytes)
+
+-- what a caller finds at the front of the page is the text
+pub shown : (text page : List ℕ) → take (length text) (atFront text page) ≡ text
+shown text page = take-append-seam text (drop (length text) page)
 
 -- pieces are listed as the stream that they make
 together : (l : Lister) (pieces : List (List ℕ)) → listedFrom l pieces ≡ said l (joined pieces) ++ endOf (after l (joined pieces))

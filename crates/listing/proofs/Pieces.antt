@@ -10,7 +10,8 @@ use lib.ListN.{length, take, getD}
 use lib.Seq.{take-suc, take-all}
 use Rattle.listing.specs.declared.Lister.{Lister}
 use Rattle.listing.specs.declared.Listed.{Listed}
-use Rattle.listing.specs.Listing.{afterByte, saidByte, after, said, listed, atFront, Within, Puts}
+use Rattle.listing.specs.Listing.{afterByte, saidByte, after, said, listed}
+use Rattle.listing.specs.Page.{atFront, Within, Puts}
 use Rattle.listing.proofs.Puts.{front}
 
 pub after-append : (l : Lister) (xs ys : List ℕ) → after l (xs ++ ys) ≡ after (after l xs) ys

@@ -1,13 +1,13 @@
 -- The laws of `put` and `Puts`: two texts put one after the other are one text put; nothing put; and from the part that is lent to the whole.
 -- Assumes nothing.
-use mathlib.Core.Path.{_≡_, refl, sym, ap, _∙_}
+use mathlib.Core.Path.{_≡_, sym, ap, _∙_}
 use mathlib.Core.List.{List, [], _++_, append-assoc, append-nil}
 use Prim.Native.Nat.{ℕ, _+_, _-_, _≤_}
 use native.Mathlib.Nat.{le-of-eq, add-zero, zero-add, add-assoc}
 use native.Mathlib.Omega.{arith}
-use lib.ListN.{length, take, drop, length-append, length-take, length-drop, take-append-drop, drop-of-length-le}
+use lib.ListN.{length, take, drop, length-append, length-drop, take-append-drop, drop-of-length-le}
 use lib.Seq.{take-append-seam, drop-append-add, length-take-le, take-all, drop-drop}
-use Rattle.listing.specs.Listing.{put, Puts, atFront, Within}
+use Rattle.listing.specs.Page.{put, Puts, atFront, Within}
 
 -- after a list of n elements, a text at n goes behind it
 behind : (x y t : List ℕ) (n : ℕ) → length x ≡ n → take n (x ++ y) ++ (t ++ drop (n + length t) (x ++ y)) ≡ x ++ (t ++ drop (length t) y)
@@ -19,9 +19,6 @@ module _ (at : ℕ) (s p : List ℕ) (room : at + length s ≤ length p) where
 
   grouped : put at s p ≡ (take at p ++ s) ++ drop (at + length s) p
   grouped = sym (append-assoc (take at p) s (drop (at + length s) p))
-
-  pub put-length : length (put at s p) ≡ length p
-  put-length = simp (length-append, length-drop, length-take-le at p (omega arith)) (omega arith)
 
   put-put : (t : List ℕ) → put (at + length s) t (put at s p) ≡ put at (s ++ t) p
   put-put t =

@@ -1,9 +1,8 @@
 -- The whole listing of a stream of bytes (01, "Bench cases"), and what the lister does with each piece of it.
 -- Assumes nothing.
-use Prim.Native.Nat.{ℕ, _+_, _*_, _≤_}
-use mathlib.Core.Path.{_≡_}
+use Prim.Native.Nat.{ℕ, _+_, _*_}
 use mathlib.Core.List.{List, [], _∷_, _++_}
-use lib.ListN.{length, take, drop}
+use lib.ListN.{length}
 use Rattle.rig.specs.declared.Rig.{Rig}
 use Rattle.rig.specs.Words.{takeOf}
 use Rattle.rig.specs.Start.{startRig}
@@ -77,22 +76,6 @@ abbrev pub listedFrom : Lister → List (List ℕ) → List ℕ
 listedFrom l [] = endOf l
 listedFrom l (piece ∷ pieces) = said l piece ++ listedFrom (after l piece) pieces
 
--- A text at the front of a page; the rest of the page stays as it was.
-abbrev pub atFront : List ℕ → List ℕ → List ℕ
-atFront text page = text ++ drop (length text) page
-
--- n counts bytes at the front of a page. The second part follows from the first; both are what a caller who hands those bytes on has to know.
-abbrev pub Within : ℕ → List ℕ → Type 0
-Within n page = (n ≤ length page) × (n ≡ length (take n page))
-
--- the answer for a text at the front of a page: the lister, and how long the text is
+-- the answer for a text on a page: the lister, and how long the text is
 abbrev pub listed : Lister → List ℕ → Listed
 listed l text = record { lister = l; len = length text }
-
--- A text put into a page at a place, and the place after it.
-abbrev pub put : ℕ → List ℕ → List ℕ → List ℕ
-put at text page = take at page ++ (text ++ drop (at + length text) page)
-
-pub record Puts (at : ℕ) (text page : List ℕ) (next : ℕ) (filled : List ℕ) : Type 0 where
-  pub place : next ≡ at + length text
-  pub content : filled ≡ put at text page

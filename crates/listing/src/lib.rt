@@ -5,7 +5,8 @@ ghost use mathlib.Core.List.{_++_};
 ghost use Prim.Native.Nat.{_+_, _*_, _≤_, _<_, min};
 ghost use lib.ListN.{length, take, drop};
 ghost use Rattle.listing.specs.Text.{digit, hexByte, hexWord, decimal, invalid, firstLine, answerText, answerLine, droppedLine, linesOf, lastLine};
-ghost use Rattle.listing.specs.Listing.{startLister, afterByte, saidByte, after, said, endOf, atFront, Within, Puts, listed};
+ghost use Rattle.listing.specs.Listing.{startLister, afterByte, saidByte, after, said, endOf, listed};
+ghost use Rattle.listing.specs.Page.{atFront, Within, Puts};
 use rig::Answer;
 use rig::Faults;
 use rig::Reply;
@@ -172,7 +173,9 @@ fn put_last_line(faults: Faults, page: &mut [u8], at: usize) -> usize
 // One byte: it waits for its low byte, or completes a word, whose lines go to the page.
 fn feed(lister: Lister, byte: u8, page: &mut [u8], at: usize) -> Listed
     requires { ⌜ at + 32 ≤ length (now page) ⌝ }
-    ensures { λ r. ⌜ (r .lister ≡ afterByte lister byte) × Puts at (saidByte lister byte) (now (page .entry)) (r .len) (now (page .exit)) × (r .len ≤ at + 32) ⌝ }
+    ensures { λ r. ⌜ (r .lister ≡ afterByte lister byte)
+        × Puts at (saidByte lister byte) (now (page .entry)) (r .len) (now (page .exit))
+        × (r .len ≤ at + 32) ⌝ }
 {
     let rig = lister.rig;
     let half = lister.half;
@@ -204,7 +207,8 @@ fn feed(lister: Lister, byte: u8, page: &mut [u8], at: usize) -> Listed
 // Bytes in order, from the front of the page on.
 fn run(lister: Lister, bytes: &[u8], page: &mut [u8]) -> Listed
     requires { ⌜ 32 * length (now bytes) ≤ length (now page) ⌝ }
-    ensures { λ r. ⌜ (r .lister ≡ after lister (now (bytes .entry))) × Puts 0 (said lister (now (bytes .entry))) (now (page .entry)) (r .len) (now (page .exit)) × (r .len ≤ 32 * length (now (bytes .entry))) ⌝ }
+    ensures { λ r. ⌜ (r .lister ≡ after lister (now (bytes .entry)))
+        × Puts 0 (said lister (now (bytes .entry))) (now (page .entry)) (r .len) (now (page .exit)) ⌝ }
 {
     let mut state = lister;
     let mut len: usize = 0;
@@ -227,9 +231,11 @@ fn least(n: usize, most: usize) -> usize
     most
 }
 
-// A listing begins: the rig at its start, and the first line on the page.
+// A listing begins: the rig at its start, and the first line at the front of the page.
 pub fn open(page: &mut [u8; 131072]) -> Listed
-    ensures { λ r. ⌜ (r ≡ listed startLister firstLine) × (now (page .exit) ≡ atFront firstLine (now (page .entry))) × Within (r .len) (now (page .exit)) ⌝ }
+    ensures { λ r. ⌜ (r ≡ listed startLister firstLine)
+        × (now (page .exit) ≡ atFront firstLine (now (page .entry)))
+        × Within (r .len) (now (page .exit)) ⌝ }
 {
     let rig = rig::start();
     let len = put_text(b"word answer\n", page, 0);
@@ -242,19 +248,23 @@ pub fn open(page: &mut [u8; 131072]) -> Listed
     }
 }
 
-// A piece of the stream, of which n bytes came: their text is put on the page.
-// The page has room for two lines of 16 bytes for each byte of the piece, so a piece of any bytes fits.
+// A piece of the stream, of which n bytes came: their text at the front of the page.
+// The page has room for two lines of 16 bytes for each byte of the piece, so the text of any bytes fits.
 pub fn list(lister: Lister, piece: &[u8; 4096], n: usize, page: &mut [u8; 131072]) -> Listed
-    ensures { λ r. ⌜ (r ≡ listed (after lister (take n (now (piece .entry)))) (said lister (take n (now (piece .entry))))) × (now (page .exit) ≡ atFront (said lister (take n (now (piece .entry)))) (now (page .entry))) × Within (r .len) (now (page .exit)) ⌝ }
+    ensures { λ r. ⌜ (r ≡ listed (after lister (take n (now (piece .entry)))) (said lister (take n (now (piece .entry)))))
+        × (now (page .exit) ≡ atFront (said lister (take n (now (piece .entry)))) (now (page .entry)))
+        × Within (r .len) (now (page .exit)) ⌝ }
 {
     let end = least(n, 4096);
     let whole: &[u8] = piece;
     run(lister, &whole[..end], page)
 }
 
-// The stream has ended: a lone last byte, and the last line.
+// The stream has ended: a lone last byte is told, then the last line. A block that still waits prints nothing.
 pub fn finish(lister: Lister, page: &mut [u8; 131072]) -> usize
-    ensures { λ r. ⌜ (r ≡ length (endOf lister)) × (now (page .exit) ≡ atFront (endOf lister) (now (page .entry))) × Within r (now (page .exit)) ⌝ }
+    ensures { λ r. ⌜ (r ≡ length (endOf lister))
+        × (now (page .exit) ≡ atFront (endOf lister) (now (page .entry)))
+        × Within r (now (page .exit)) ⌝ }
 {
     let rig = lister.rig;
     let half = lister.half;

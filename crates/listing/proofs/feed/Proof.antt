@@ -18,7 +18,12 @@ returns-2 c =
     let t = c .before .before .before .before .before .take .ensures in
     let a = c .before .before .before .before .before .before .before .wide .ensures .0 in
     let b = c .before .before .before .before .before .before .wide2 .ensures .0 in
-    simp (c .before .before .before .before .before .before .before .before .before .half .given .1, t, a, b) (refl, simp (t, a, b) at (c .before .before .put-lines .ensures .0), omega arith)
+    simp (c .before .before .before .before .before .before .before .before .before .half .given .1, t, a, b)
+    (refl, simp (t, a, b) at (c .before .before .put-lines .ensures .0), omega arith)
 
 pub feed-spec : {M : Type 1} → statement M
-feed-spec = tie.close (tie.spec (λ c. search needs) (λ c. search needs) (λ c κs. search needs) (λ c. search needs) (λ c κs. search needs) (λ c. search needs) (λ c κs. search needs) (λ c κs. search needs) returns (λ c. search needs) returns-2)
+feed-spec =
+    tie.close
+    (tie.spec
+    (λ c. search needs) (λ c. search needs) (λ c κs. search needs) (λ c. search needs) (λ c κs. search needs) (λ c. search needs)
+    (λ c κs. search needs) (λ c κs. search needs) returns (λ c. search needs) returns-2)

@@ -17,4 +17,8 @@ returns-2 c =
     simp (c .before .before .before .before .before .enum-told2 .given .1) (e .0, e .1, e .2)
 
 pub finish-spec : {M : Type 1} → statement M
-finish-spec = tie.close (tie.spec (λ c. search needs) (λ c κs. search needs) (λ c. search needs) (λ c. search needs) (λ c κs. search needs) (λ c κs. search needs) returns returns-2)
+finish-spec =
+    tie.close
+    (tie.spec
+    (λ c. search needs) (λ c κs. search needs) (λ c. search needs) (λ c. search needs) (λ c κs. search needs) (λ c κs. search needs) returns
+    returns-2)

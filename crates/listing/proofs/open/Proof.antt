@@ -1,7 +1,6 @@
 -- `listing::open` meets its contract: the rig at its start, and the first line at the front.
 -- Assumes nothing.
 use borrow.Author.Needs.{needs}
-use native.Mathlib.Omega.{arith}
 use Rattle.listing.proofs.Puts.{front}
 use Rattle.listing.proofs.open.Statement.{statement}
 use Rattle.listing.proofs.open.Tie as tie

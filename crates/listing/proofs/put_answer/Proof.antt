@@ -13,7 +13,13 @@ returns-2 c = simp (c .before .before .before .before .before .enum-told2 .given
 
 returns-3 : tie.Need-returns-3
 returns-3 c =
-    simp (c .before .before .before .before .before .before .before .answer .given .1) (rw (c .before .before .before .before .number .ensures) at (c .before .before .put-named .ensures), omega arith)
+    simp (c .before .before .before .before .before .before .before .answer .given .1)
+    (rw (c .before .before .before .before .number .ensures) at (c .before .before .put-named .ensures), omega arith)
 
 pub put-answer-spec : {M : Type 1} → statement M
-put-answer-spec = tie.close (tie.spec (λ c. search needs) (λ c. search needs) (λ c κs. search needs) (λ c. search needs) (λ c. search needs) (λ c κs. search needs) (λ c. search needs) (λ c. search needs) (λ c κs. search needs) (λ c κs. search needs) (λ c. search needs) returns (λ c. search needs) returns-2 (λ c. search needs) returns-3)
+put-answer-spec =
+    tie.close
+    (tie.spec
+    (λ c. search needs) (λ c. search needs) (λ c κs. search needs) (λ c. search needs) (λ c. search needs) (λ c κs. search needs)
+    (λ c. search needs) (λ c. search needs) (λ c κs. search needs) (λ c κs. search needs) (λ c. search needs) returns (λ c. search needs)
+    returns-2 (λ c. search needs) returns-3)

@@ -18,4 +18,8 @@ returns-3 c =
     (chain (c .before .before .before .before .before .before .put-dropped-line2 .ensures) (c .before .before .put-answer-line2 .ensures .0) (omega arith), omega arith)
 
 pub put-lines-spec : {M : Type 1} → statement M
-put-lines-spec = tie.close (tie.spec (λ c. search needs) (λ c κs. search needs) (λ c. search needs) (λ c κs. search needs) (λ c. search needs) (λ c κs. search needs) (λ c κs. search needs) (λ c. search needs) returns (λ c. search needs) returns-2 (λ c. search needs) returns-3)
+put-lines-spec =
+    tie.close
+    (tie.spec
+    (λ c. search needs) (λ c κs. search needs) (λ c. search needs) (λ c κs. search needs) (λ c. search needs) (λ c κs. search needs)
+    (λ c κs. search needs) (λ c. search needs) returns (λ c. search needs) returns-2 (λ c. search needs) returns-3)

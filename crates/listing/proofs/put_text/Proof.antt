@@ -16,4 +16,7 @@ returns c =
     record { place = refl; content = cc (e, p) }
 
 pub put-text-spec : {M : Type 1} → statement M
-put-text-spec = tie.close (tie.spec (λ c. search needs) (λ c. search needs) (λ c. search needs) (λ c κs. search needs) (λ c. search needs) (λ c. search needs) returns)
+put-text-spec =
+    tie.close
+    (tie.spec
+    (λ c. search needs) (λ c. search needs) (λ c. search needs) (λ c κs. search needs) (λ c. search needs) (λ c. search needs) returns)

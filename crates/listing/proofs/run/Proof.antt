@@ -7,8 +7,9 @@ use borrow.Author.Needs.{needs}
 use denote.Ref.{now}
 use lib.ListN.{length, take}
 use lib.Seq.{take-length}
-use Rattle.listing.specs.Listing.{after, said, Puts}
-use Rattle.listing.proofs.Puts.{chain, put-nil, put-length}
+use Rattle.listing.specs.Listing.{after, said}
+use Rattle.listing.specs.Page.{Puts}
+use Rattle.listing.proofs.Puts.{chain, put-nil}
 use Rattle.listing.proofs.Pieces.{after-more, said-more}
 use Rattle.listing.proofs.run.Statement.{statement}
 use Rattle.listing.proofs.run.Tie as tie
@@ -46,7 +47,7 @@ returns c =
     let all : c .before .loop .i ≡ length (now (a .bytes)) = omega arith in
     let e = rw (all, take-length (now (a .bytes))) at (inv .3) in
     let p = rw (all, take-length (now (a .bytes))) at (inv .4) in
-    (e, p, omega arith)
+    (e, p)
 
 pub run-spec : {M : Type 1} → statement M
 run-spec =
