@@ -28,7 +28,7 @@ fn failed(lister: Lister, why: &[u8]) -> Turned {
 
 // Reads once and writes the lines of what came.
 fn turn(lister: Lister) -> Turned {
-    let mut piece = [0u8; 4096];
+    let mut piece = [0u8; listing::PIECE];
     let got = libc::read(STDIN_FILENO, &mut piece);
     if got < 0 {
         return failed(lister, b"lister: cannot read\n");
@@ -40,7 +40,7 @@ fn turn(lister: Lister) -> Turned {
         };
     }
     let n = io::count(got, &piece);
-    let mut page = [0u8; 131072];
+    let mut page = [0u8; listing::PAGE];
     let listed = listing::list(lister, &piece, n, &mut page);
     let after = listed.lister;
     let len = listed.len;
@@ -75,7 +75,7 @@ fn list_all(lister: Lister) -> Turned {
 }
 
 fn main() {
-    let mut page = [0u8; 131072];
+    let mut page = [0u8; listing::PAGE];
     let opened = listing::open(&mut page);
     let len = opened.len;
     let start = opened.lister;

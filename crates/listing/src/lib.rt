@@ -12,6 +12,11 @@ use rig::Faults;
 use rig::Reply;
 use rig::Rig;
 
+// The most bytes of a piece of the stream, and of the page that its text goes to: each byte may bring two lines of 16 bytes.
+pub const PIECE: usize = 4096;
+
+pub const PAGE: usize = 131072;
+
 // The high byte of a word whose low byte has not come.
 pub enum Half {
     Nothing,
@@ -232,7 +237,7 @@ fn least(n: usize, most: usize) -> usize
 }
 
 // A listing begins: the rig at its start, and the first line at the front of the page.
-pub fn open(page: &mut [u8; 131072]) -> Listed
+pub fn open(page: &mut [u8; PAGE]) -> Listed
     ensures { λ r. ⌜ (r ≡ listed startLister firstLine)
         × (now (page .exit) ≡ atFront firstLine (now (page .entry)))
         × Within (r .len) (now (page .exit)) ⌝ }
@@ -249,19 +254,18 @@ pub fn open(page: &mut [u8; 131072]) -> Listed
 }
 
 // A piece of the stream, of which n bytes came: their text at the front of the page.
-// The page has room for two lines of 16 bytes for each byte of the piece, so the text of any bytes fits.
-pub fn list(lister: Lister, piece: &[u8; 4096], n: usize, page: &mut [u8; 131072]) -> Listed
+pub fn list(lister: Lister, piece: &[u8; PIECE], n: usize, page: &mut [u8; PAGE]) -> Listed
     ensures { λ r. ⌜ (r ≡ listed (after lister (take n (now (piece .entry)))) (said lister (take n (now (piece .entry)))))
         × (now (page .exit) ≡ atFront (said lister (take n (now (piece .entry)))) (now (page .entry)))
         × Within (r .len) (now (page .exit)) ⌝ }
 {
-    let end = least(n, 4096);
+    let end = least(n, PIECE);
     let whole: &[u8] = piece;
     run(lister, &whole[..end], page)
 }
 
 // The stream has ended: a lone last byte is told, then the last line. A block that still waits prints nothing.
-pub fn finish(lister: Lister, page: &mut [u8; 131072]) -> usize
+pub fn finish(lister: Lister, page: &mut [u8; PAGE]) -> usize
     ensures { λ r. ⌜ (r ≡ length (endOf lister))
         × (now (page .exit) ≡ atFront (endOf lister) (now (page .entry)))
         × Within r (now (page .exit)) ⌝ }

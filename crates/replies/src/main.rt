@@ -3,7 +3,9 @@
 use libc::STDOUT_FILENO;
 use listing::Lister;
 
-const WORDS: [u16; 67] = [
+const COUNT: usize = 67;
+
+const WORDS: [u16; COUNT] = [
     0x2805, // relay off
     0x0822, // relay: both bits
     0x0800, // relay: neither bit
@@ -75,10 +77,10 @@ const WORDS: [u16; 67] = [
 
 // The first n bytes of a word, as a piece of the stream.
 fn show(lister: Lister, word: u16, n: usize) -> Lister {
-    let mut piece = [0u8; 4096];
+    let mut piece = [0u8; listing::PIECE];
     piece[0] = (word / 256) as u8;
     piece[1] = (word % 256) as u8;
-    let mut page = [0u8; 131072];
+    let mut page = [0u8; listing::PAGE];
     let listed = listing::list(lister, &piece, n, &mut page);
     let len = listed.len;
     io::write_all(STDOUT_FILENO, &page[..len]);
@@ -88,7 +90,7 @@ fn show(lister: Lister, word: u16, n: usize) -> Lister {
 fn show_all(lister: Lister) -> Lister {
     let mut state = lister;
     let mut i: usize = 0;
-    while i < 67 {
+    while i < COUNT {
         state = show(state, WORDS[i], 2);
         i += 1;
     }
@@ -96,7 +98,7 @@ fn show_all(lister: Lister) -> Lister {
 }
 
 fn main() {
-    let mut page = [0u8; 131072];
+    let mut page = [0u8; listing::PAGE];
     let opened = listing::open(&mut page);
     let len = opened.len;
     let start = opened.lister;
