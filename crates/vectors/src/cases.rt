@@ -28,14 +28,18 @@ fn say(reply: Reply) {
     }
 }
 
+fn say_word(word: u16, reply: Reply) {
+    print::text(b"word ");
+    print::word(word);
+    say(reply);
+    print::text(b"\n");
+}
+
 // A word sent, with its line.
 pub(crate) fn send(bench: Bench, word: u16) -> Bench {
     let worded = bench::word(bench, word);
-    print::text(b"word ");
-    print::word(word);
     let reply = worded.reply;
-    say(reply);
-    print::text(b"\n");
+    say_word(word, reply);
     worded.bench
 }
 
@@ -55,10 +59,14 @@ fn send_quietly(bench: Bench, word: u16, times: u32) -> Bench {
     b
 }
 
-fn case_of(name: &[u8]) -> Bench {
+fn title(name: &[u8]) {
     print::text(b"case ");
     print::text(name);
     print::text(b"\n");
+}
+
+fn case_of(name: &[u8]) -> Bench {
+    title(name);
     bench::fresh()
 }
 
@@ -68,9 +76,19 @@ fn show(name: &[u8], value: u8) {
     print::text(b"\n");
 }
 
-fn show_count(bench: Bench) {
-    print::text(b"invalid count ");
-    print::small(bench.rig.faults.count);
+fn show_small(name: &[u8], value: u8) {
+    print::text(name);
+    print::small(value);
+    print::text(b"\n");
+}
+
+fn say_frame_byte(index: u8, k: usize, value: u8) {
+    print::text(b"frame ");
+    print::small(index);
+    print::text(b" byte ");
+    print::number(k as u64);
+    print::text(b" is ");
+    print::byte(value);
     print::text(b"\n");
 }
 
@@ -79,13 +97,7 @@ fn show_frame_byte(bench: Bench, k: usize) {
     let mut f = [0u8; 40];
     bench::build(bench, &mut f, 0);
     if k < 40 {
-        print::text(b"frame ");
-        print::small(f[0] % 32);
-        print::text(b" byte ");
-        print::number(k as u64);
-        print::text(b" is ");
-        print::byte(f[k]);
-        print::text(b"\n");
+        say_frame_byte(f[0], k, f[k]);
     }
 }
 
@@ -105,12 +117,11 @@ fn singles() {
     send(case_of(b"e"), 0x2805);
     send(send(case_of(b"f"), 0x0802), 0x2805);
     let g = send(case_of(b"g"), 0x29FA);
-    print::text(b"limit ");
-    print::small(g.rig.core.supply.limit);
-    print::text(b"\n");
+    show_small(b"limit ", g.rig.core.supply.limit);
     let full = send_quietly(case_of(b"h"), 0x0800, 255);
-    show_count(full);
-    show_count(send(full, 0x0800));
+    show_small(b"invalid count ", full.rig.faults.count);
+    let over = send(full, 0x0800);
+    show_small(b"invalid count ", over.rig.faults.count);
 }
 
 // The size of a count.
@@ -136,7 +147,7 @@ fn volts(name: &[u8], x: f64) {
 }
 
 fn readings() {
-    case_of(b"i");
+    title(b"i");
     let low = volts::sheet_of(0x00, 0x00);
     volts(b"bias 00h", low.bias);
     volts(b"ground 00h", low.ground);
@@ -177,7 +188,7 @@ fn show_item(b: &[u8], n: usize) {
 
 // An NM block whose IFFT block has two matrix items.
 fn items() {
-    case_of(b"l");
+    title(b"l");
     let mut b = [0u8; 512];
     b[0] = 0x14;
     b[1] = 0x6F;

@@ -4,6 +4,7 @@ use super::print;
 use super::slots;
 use bench::Bench;
 use desk::Answer;
+use desk::Shown;
 use frame::Arrived;
 use frame::Item;
 use frame::Refusal;
@@ -27,24 +28,33 @@ fn show_around(b: &[u8]) {
     print::text(b"\n");
 }
 
+fn say_place(at: usize, wrote: Wrote, same: bool, next: u8) {
+    print::text(b"place ");
+    print::number(at as u64);
+    match wrote {
+        Wrote::Done => print::text(b" written"),
+        Wrote::Refused(why) => say_refused(why),
+    }
+    if same {
+        print::text(b", buffer as it was");
+    }
+    print::text(b", next frame ");
+    print::small(next);
+    print::text(b"\n");
+}
+
 // The next frame to be built at a place of a buffer of 44 bytes AAh.
 fn place(bench: Bench, at: usize, shown: bool) -> Bench {
     let blank = [0xAAu8; 44];
     let mut buf = [0xAAu8; 44];
     let sent = bench::build(bench, &mut buf, at);
-    print::text(b"place ");
-    print::number(at as u64);
     let wrote = sent.wrote;
-    match wrote {
-        Wrote::Done => print::text(b" written"),
-        Wrote::Refused(why) => say_refused(why),
-    }
-    if check::same(&buf, &blank) {
-        print::text(b", buffer as it was");
-    }
-    print::text(b", next frame ");
-    print::small(sent.bench.rig.sending.next);
-    print::text(b"\n");
+    say_place(
+        at,
+        wrote,
+        check::same(&buf, &blank),
+        sent.bench.rig.sending.next,
+    );
     if shown {
         show_around(&buf);
     }
@@ -75,20 +85,24 @@ fn say_index(s: &[u8]) {
     }
 }
 
-// Bytes handed to the desk, with what it then shows of the ground byte, which only frames 0, 8, 16 and 24 bring.
-fn hand(bench: Bench, name: &[u8], s: &[u8]) -> Bench {
-    let handed = bench::hand(bench, s);
+fn say_handed(name: &[u8], s: &[u8], answer: Answer, ground: Shown) {
     print::text(name);
     say_index(s);
-    let answer = handed.answer;
     match answer {
         Answer::Heard => print::text(b" heard"),
         Answer::Missed => print::text(b" missed"),
         Answer::Refused(why) => say_refused(why),
     }
     print::text(b", Ground");
-    slots::say_byte(bench::look(handed.bench, Item::Ground));
+    slots::say_byte(ground);
     print::text(b"\n");
+}
+
+// Bytes handed to the desk, with what it then shows of the ground byte, which only frames 0, 8, 16 and 24 bring.
+fn hand(bench: Bench, name: &[u8], s: &[u8]) -> Bench {
+    let handed = bench::hand(bench, s);
+    let answer = handed.answer;
+    say_handed(name, s, answer, bench::look(handed.bench, Item::Ground));
     handed.bench
 }
 

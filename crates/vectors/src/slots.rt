@@ -14,12 +14,11 @@ enum Slot {
     Fill,
 }
 
-// The bench after so many slots, the last one's frame as it was built, and what came.
+// The bench after so many slots, and the last one's frame as it was built.
 struct Watch {
     bench: Bench,
     slots: u32,
     frame: [u8; 40],
-    came: Slot,
 }
 
 pub(crate) fn say_byte(shown: Shown) {
@@ -52,18 +51,15 @@ fn start(name: &[u8]) -> Watch {
         bench: bench::fresh(),
         slots: 0,
         frame: [0u8; 40],
-        came: Slot::Missed,
     }
 }
 
 fn with_bench(watch: Watch, bench: Bench) -> Watch {
     let frame = watch.frame;
-    let came = watch.came;
     Watch {
         bench,
         slots: watch.slots,
         frame,
-        came,
     }
 }
 
@@ -83,7 +79,6 @@ fn pass(watch: Watch, came: Slot) -> Watch {
         bench: arrive(sent.bench, &frame, came),
         slots: std::num::wrapping_add_u32(watch.slots, 1),
         frame,
-        came,
     }
 }
 
@@ -108,11 +103,9 @@ pub(crate) fn spins(bench: Bench, times: u32) -> Bench {
 }
 
 // The slot's number, from 0, and what came.
-fn say_slot(watch: Watch) {
+fn say_slot(slots: u32, frame: [u8; 40], came: Slot) {
     print::text(b"slot ");
-    print::number(std::num::wrapping_sub_u32(watch.slots, 1) as u64);
-    let came = watch.came;
-    let frame = watch.frame;
+    print::number(std::num::wrapping_sub_u32(slots, 1) as u64);
     match came {
         Slot::Whole => {
             print::text(b" index ");
@@ -125,37 +118,53 @@ fn say_slot(watch: Watch) {
     }
 }
 
+fn say_check(check: Shown) {
+    print::text(b" LastCheck");
+    say_byte(check);
+    print::text(b"\n");
+}
+
+fn say_counter(counter: Shown) {
+    print::text(b" LongCounter");
+    say_long(counter);
+    print::text(b"\n");
+}
+
+fn say_code_and_ground(code: Shown, ground: Shown) {
+    print::text(b" LastInvalidCode");
+    say_byte(code);
+    print::text(b" Ground");
+    say_byte(ground);
+}
+
+// One slot, and the front of its line.
+fn told(watch: Watch, came: Slot) -> Watch {
+    let next = pass(watch, came);
+    let frame = next.frame;
+    say_slot(next.slots, frame, came);
+    next
+}
+
 // A slot, and what the desk then shows of the last check.
 fn check_slot(watch: Watch, came: Slot) -> Watch {
-    let next = pass(watch, came);
-    say_slot(next);
-    print::text(b" LastCheck");
-    say_byte(bench::look(next.bench, Item::LastCheck));
-    print::text(b"\n");
+    let next = told(watch, came);
+    say_check(bench::look(next.bench, Item::LastCheck));
     next
 }
 
 // The long EDB counter.
 fn counter_slot(watch: Watch, came: Slot) -> Watch {
-    let next = pass(watch, came);
-    say_slot(next);
-    print::text(b" LongCounter");
-    say_long(bench::look(next.bench, Item::LongCounter));
-    print::text(b"\n");
+    let next = told(watch, came);
+    say_counter(bench::look(next.bench, Item::LongCounter));
     next
 }
 
 // The last invalid code, which every frame brings; ground, which frames 0, 8, 16 and 24 bring; the long EDB counter.
 fn fill_slot(watch: Watch, came: Slot) -> Watch {
-    let next = pass(watch, came);
-    say_slot(next);
-    print::text(b" LastInvalidCode");
-    say_byte(bench::look(next.bench, Item::LastInvalidCode));
-    print::text(b" Ground");
-    say_byte(bench::look(next.bench, Item::Ground));
-    print::text(b" LongCounter");
-    say_long(bench::look(next.bench, Item::LongCounter));
-    print::text(b"\n");
+    let next = told(watch, came);
+    let code = bench::look(next.bench, Item::LastInvalidCode);
+    say_code_and_ground(code, bench::look(next.bench, Item::Ground));
+    say_counter(bench::look(next.bench, Item::LongCounter));
     next
 }
 
