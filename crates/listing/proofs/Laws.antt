@@ -11,7 +11,7 @@ use Rattle.rig.specs.Start.{startRig}
 use Rattle.listing.specs.declared.Half.the-variants.{Nothing}
 use Rattle.listing.specs.declared.Lister.{Lister}
 use Rattle.listing.specs.Text.{firstLine, linesOf}
-use Rattle.listing.specs.Listing.{wordOf, listingFrom, listingOf, lister, startLister, afterByte, saidByte, after, said, endOf, joined, listedFrom}
+use Rattle.listing.specs.Listing.{wordOf, listingFrom, listingOf, lister, startLister, afterByte, saidByte, after, said, endOf, joined, listedFrom, InPieces}
 use Rattle.listing.specs.Page.{atFront}
 use Rattle.listing.proofs.Pieces.{after-append, said-append}
 
@@ -39,5 +39,5 @@ together l (p ∷ pieces) =
     ap (λ (r : List ℕ). said l p ++ r) (together (after l p) pieces)
     ∙ rw (said-append, after-append) (sym (append-assoc (said l p) (said (after l p) (joined pieces)) _))
 
-pub in-pieces : (pieces : List (List ℕ)) → firstLine ++ listedFrom startLister pieces ≡ listingOf (joined pieces)
+pub in-pieces : InPieces
 in-pieces pieces = ap (λ (r : List ℕ). firstLine ++ r) (together startLister pieces) ∙ whole (joined pieces)

@@ -1,6 +1,7 @@
 -- The whole listing of a stream of bytes (01, "Bench cases"), and what the lister does with each piece of it.
 -- Assumes nothing.
 use Prim.Native.Nat.{ℕ, _+_, _*_}
+use mathlib.Core.Path.{_≡_}
 use mathlib.Core.List.{List, [], _∷_, _++_}
 use lib.ListN.{length}
 use Rattle.rig.specs.declared.Rig.{Rig}
@@ -75,6 +76,10 @@ joined (piece ∷ pieces) = piece ++ joined pieces
 abbrev pub listedFrom : Lister → List (List ℕ) → List ℕ
 listedFrom l [] = endOf l
 listedFrom l (piece ∷ pieces) = said l piece ++ listedFrom (after l piece) pieces
+
+-- In whatever pieces a stream comes, the first line, the texts of its pieces and the end are the listing of the whole stream.
+abbrev pub InPieces : Type 0
+InPieces = (pieces : List (List ℕ)) → firstLine ++ listedFrom startLister pieces ≡ listingOf (joined pieces)
 
 -- the answer for a text on a page: the lister, and how long the text is
 abbrev pub listed : Lister → List ℕ → Listed

@@ -4,6 +4,7 @@ use super::print;
 use super::slots;
 use bench::Bench;
 use desk::Answer;
+use desk::Desk;
 use desk::Shown;
 use frame::Arrived;
 use frame::Item;
@@ -99,17 +100,17 @@ fn say_handed(name: &[u8], s: &[u8], answer: Answer, ground: Shown) {
 }
 
 // Bytes handed to the desk, with what it then shows of the ground byte, which only frames 0, 8, 16 and 24 bring.
-fn hand(bench: Bench, name: &[u8], s: &[u8]) -> Bench {
-    let handed = bench::hand(bench, s);
+fn hand(desk: Desk, name: &[u8], s: &[u8]) -> Desk {
+    let handed = desk::slot(desk, s);
     let answer = handed.answer;
-    say_handed(name, s, answer, bench::look(handed.bench, Item::Ground));
-    handed.bench
+    say_handed(name, s, answer, desk::look(handed.desk, Item::Ground));
+    handed.desk
 }
 
 fn lengths() {
     print::text(b"bytes handed to the desk\n");
     let zeros = [0u8; 41];
-    let short = hand(bench::fresh(), b"39 bytes 00h", &zeros[..39]);
+    let short = hand(desk::fresh(), b"39 bytes 00h", &zeros[..39]);
     let long = hand(short, b"41 bytes 00h", &zeros);
     let whole = hand(long, b"40 bytes 00h", &zeros[..40]);
     let c0 = hand(whole, b"40 bytes C0h", &[0xC0u8; 40]);

@@ -4,6 +4,7 @@ use super::cases;
 use super::print;
 use super::slots;
 use bench::Bench;
+use desk::Desk;
 use frame::Item;
 use power::PanelSetting;
 
@@ -52,57 +53,66 @@ fn all_heard(bench: Bench, times: u32) -> Bench {
     b
 }
 
-fn show(bench: Bench, name: &[u8], item: Item) {
+fn show(desk: Desk, name: &[u8], item: Item) {
     print::text(name);
-    slots::say_byte(bench::look(bench, item));
+    slots::say_byte(desk::look(desk, item));
     print::text(b"\n");
 }
 
-fn show_long(bench: Bench, name: &[u8], item: Item) {
+fn show_long(desk: Desk, name: &[u8], item: Item) {
     print::text(name);
-    slots::say_long(bench::look(bench, item));
+    slots::say_long(desk::look(desk, item));
     print::text(b"\n");
 }
 
-fn show_all(bench: Bench) {
-    show(bench, b"Parallel", Item::Parallel);
-    show(bench, b"Multiplexer1", Item::Multiplexer1);
-    show(bench, b"Multiplexer2", Item::Multiplexer2);
-    show(bench, b"Multiplexer3", Item::Multiplexer3);
-    show(bench, b"ErrorCode", Item::ErrorCode);
-    show(bench, b"DirectionStop", Item::DirectionStop);
-    show(bench, b"DirectionStart", Item::DirectionStart);
-    show(bench, b"EnergyStop", Item::EnergyStop);
-    show(bench, b"EnergyStart", Item::EnergyStart);
-    show(bench, b"LastInvalidCode", Item::LastInvalidCode);
-    show(bench, b"IelEnable", Item::IelEnable);
-    show(bench, b"ReducedCounter", Item::ReducedCounter);
-    show(bench, b"Bias", Item::Bias);
-    show(bench, b"Relay", Item::Relay);
-    show(bench, b"Ground", Item::Ground);
-    show(bench, b"Stepping", Item::Stepping);
-    show(bench, b"Limit", Item::Limit);
-    show(bench, b"Level", Item::Level);
-    show(bench, b"Flap1", Item::Flap1);
-    show(bench, b"Flap2", Item::Flap2);
-    show(bench, b"Flap3", Item::Flap3);
-    show(bench, b"IelClock", Item::IelClock);
-    show(bench, b"LastCheck", Item::LastCheck);
-    show(bench, b"InvalidCount", Item::InvalidCount);
-    show(bench, b"HeadMask", Item::HeadMask);
-    show_long(bench, b"LongCounter", Item::LongCounter);
-    show_long(bench, b"FreeTime", Item::FreeTime);
+fn show_all(desk: Desk) {
+    show(desk, b"Parallel", Item::Parallel);
+    show(desk, b"Multiplexer1", Item::Multiplexer1);
+    show(desk, b"Multiplexer2", Item::Multiplexer2);
+    show(desk, b"Multiplexer3", Item::Multiplexer3);
+    show(desk, b"ErrorCode", Item::ErrorCode);
+    show(desk, b"DirectionStop", Item::DirectionStop);
+    show(desk, b"DirectionStart", Item::DirectionStart);
+    show(desk, b"EnergyStop", Item::EnergyStop);
+    show(desk, b"EnergyStart", Item::EnergyStart);
+    show(desk, b"LastInvalidCode", Item::LastInvalidCode);
+    show(desk, b"IelEnable", Item::IelEnable);
+    show(desk, b"ReducedCounter", Item::ReducedCounter);
+    show(desk, b"Bias", Item::Bias);
+    show_rest(desk);
 }
 
-pub(crate) fn run() {
+fn show_rest(desk: Desk) {
+    show(desk, b"Relay", Item::Relay);
+    show(desk, b"Ground", Item::Ground);
+    show(desk, b"Stepping", Item::Stepping);
+    show(desk, b"Limit", Item::Limit);
+    show(desk, b"Level", Item::Level);
+    show(desk, b"Flap1", Item::Flap1);
+    show(desk, b"Flap2", Item::Flap2);
+    show(desk, b"Flap3", Item::Flap3);
+    show(desk, b"IelClock", Item::IelClock);
+    show(desk, b"LastCheck", Item::LastCheck);
+    show(desk, b"InvalidCount", Item::InvalidCount);
+    show(desk, b"HeadMask", Item::HeadMask);
+    show_long(desk, b"LongCounter", Item::LongCounter);
+    show_long(desk, b"FreeTime", Item::FreeTime);
+}
+
+// The rig with every item set, after one round of its frames.
+fn one_round() -> Bench {
     print::text(b"a round of frames\n66048 spins\n");
     let spun = slots::spins(bench::fresh(), 66048);
     let set = paneled(commanded(spun));
-    let round = all_heard(set, 32);
-    show_all(round);
+    all_heard(set, 32)
+}
+
+pub(crate) fn run() {
+    let round = one_round();
+    show_all(round.desk);
     print::text(b"power cut\n");
-    let cut = bench::power_cut(round);
-    let again = all_heard(cut, 1);
-    show(again, b"LastInvalidCode", Item::LastInvalidCode);
-    show(again, b"LastCheck", Item::LastCheck);
+    let again = all_heard(bench::power_cut(round), 1);
+    let desk = again.desk;
+    show(desk, b"LastInvalidCode", Item::LastInvalidCode);
+    show(desk, b"LastCheck", Item::LastCheck);
 }

@@ -168,8 +168,8 @@ fn fill_slot(watch: Watch, came: Slot) -> Watch {
     next
 }
 
-fn check_too_early() {
-    let fresh = start(b"mistake 1: reading the check byte before frame 21 brings it\n");
+// A block closed at the start: its check is unknown until frame 21 brings it.
+fn first_check(fresh: Watch) -> Watch {
     let sent = with_bench(
         fresh,
         cases::send_four(fresh.bench, 0x6402, 0xA401, 0xA400, 0xE415),
@@ -178,7 +178,11 @@ fn check_too_early() {
     let before = pass_all(first, Slot::Whole, 19);
     let waiting = check_slot(before, Slot::Whole);
     let brought = check_slot(waiting, Slot::Whole);
-    let after = check_slot(brought, Slot::Whole);
+    check_slot(brought, Slot::Whole)
+}
+
+// Another block: the old check stays shown, and ages, until the next frame 21.
+fn next_check(after: Watch) -> Watch {
     let again = with_bench(
         after,
         cases::send_four(after.bench, 0x6302, 0xA303, 0xA313, 0xE346),
@@ -188,11 +192,16 @@ fn check_too_early() {
     let mask = check_slot(most, Slot::Whole);
     let round = pass_all(mask, Slot::Whole, 20);
     let oldest = check_slot(round, Slot::Whole);
-    check_slot(oldest, Slot::Whole);
+    check_slot(oldest, Slot::Whole)
 }
 
-fn two_rounds() {
-    let fresh = start(b"mistake 2: joining a counter from two rounds\n65535 spins\n");
+fn check_too_early() {
+    let fresh = start(b"mistake 1: reading the check byte before frame 21 brings it\n");
+    next_check(first_check(fresh));
+}
+
+// Frames 0 and 1 of one round, a spin, and 32 misses.
+fn half_a_counter(fresh: Watch) -> Watch {
     let spun = with_bench(fresh, spins(fresh.bench, 65535));
     let first = counter_slot(spun, Slot::Whole);
     let second = counter_slot(first, Slot::Whole);
@@ -200,21 +209,33 @@ fn two_rounds() {
     let more = with_bench(second, bench::spin(second.bench));
     let lost = counter_slot(more, Slot::Missed);
     let all = pass_all(lost, Slot::Missed, 30);
-    let last = counter_slot(all, Slot::Missed);
+    counter_slot(all, Slot::Missed)
+}
+
+// Frames 2 and 3 of the next round, and frames 0 to 3 of the one after it.
+fn a_whole_counter(last: Watch) -> Watch {
     let third = counter_slot(last, Slot::Whole);
     let fourth = counter_slot(third, Slot::Whole);
     let round = pass_all(fourth, Slot::Whole, 28);
     let begun = counter_slot(round, Slot::Whole);
     let half = counter_slot(begun, Slot::Whole);
     let nearly = counter_slot(half, Slot::Whole);
-    counter_slot(nearly, Slot::Whole);
+    counter_slot(nearly, Slot::Whole)
+}
+
+fn two_rounds() {
+    let fresh = start(b"mistake 2: joining a counter from two rounds\n65535 spins\n");
+    a_whole_counter(half_a_counter(fresh));
+}
+
+fn set_up() -> Watch {
+    let fresh = start(b"mistake 3: C0h fill taken for frame 0\nground 70h, 5 spins\n");
+    let set = bench::set(fresh.bench, PanelSetting::Ground(0x70));
+    with_bench(fresh, spins(set, 5))
 }
 
 fn fill_as_frame_0() {
-    let fresh = start(b"mistake 3: C0h fill taken for frame 0\nground 70h, 5 spins\n");
-    let set = bench::set(fresh.bench, PanelSetting::Ground(0x70));
-    let spun = with_bench(fresh, spins(set, 5));
-    let first = fill_slot(spun, Slot::Whole);
+    let first = fill_slot(set_up(), Slot::Whole);
     let second = fill_slot(first, Slot::Whole);
     let fill = fill_slot(second, Slot::Fill);
     let after = fill_slot(fill, Slot::Whole);
