@@ -1,5 +1,4 @@
 -- Laws that the proofs of `frame` are written with, and what holds of every frame.
-pub mod Copy
 pub mod Place
 pub mod Rows
 pub mod Came

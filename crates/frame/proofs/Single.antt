@@ -1,4 +1,4 @@
--- Single outcome: two results that meet a function's own contract at the same arguments are equal, and so is what a lent buffer then holds.
+-- Single outcome: two results that meet a function's own contract at the same arguments are equal.
 -- Stated of the contract that the checker makes of the source (`Reads.Post`). A slice that is only read has nothing to fix. Assumes nothing.
 use mathlib.Core.Path.{_≡_}
 use Prim.Native.Nat.{ℕ}
@@ -6,15 +6,10 @@ use contract.Lifetimes.{Lfts}
 use denote.Triple.Clauses.{AtExit}
 use borrow.Fn.Kinds.{Dens, endedOf}
 use Rattle.base.proofs.Single.{same}
-use Rattle.frame.specs.declared.Held.{Held}
 use Rattle.frame.specs.declared.Item.{Item}
-use Rattle.frame.specs.declared.Wrote.{Wrote}
 use Rattle.frame.specs.declared.Arrived.{Arrived}
 use Rattle.frame.specs.declared.Reading.{Reading}
 use Rattle.frame.proofs.row_of.Reads as row-of
-use Rattle.frame.proofs.latched.Reads as latched
-use Rattle.frame.proofs.write_at.Kinds as write-at-kinds
-use Rattle.frame.proofs.write_at.Reads as write-at
 use Rattle.frame.proofs.arrival.Kinds as arrival-kinds
 use Rattle.frame.proofs.arrival.Reads as arrival
 use Rattle.frame.proofs.read.Kinds as read-kinds
@@ -23,15 +18,7 @@ use Rattle.frame.proofs.read.Reads as read
 pub row-of-one : (x : Item) (r q : ℕ) → row-of.Post tt (x, tt) r (x, tt) → row-of.Post tt (x, tt) q (x, tt) → r ≡ q
 row-of-one x r q m n = same m n
 
-pub latched-one : (h : Held) (i l r q : ℕ) → latched.Post tt (h, (i, (l, tt))) r (h, (i, (l, tt))) → latched.Post tt (h, (i, (l, tt))) q (h, (i, (l, tt))) → r ≡ q
-latched-one h i l r q m n = same m n
-
 module _ (κs : Lfts 1) where
-  -- e and f are what the arguments are at the exit; the buffer is the fourth
-  pub write-at-one : (a : Dens κs write-at-kinds.ps) (e f : AtExit (endedOf 1 write-at-kinds.ps write-at-kinds.r) κs) (r q : Wrote)
-      → write-at.Post κs a r e → write-at.Post κs a q f → (r ≡ q) × (e .1 .1 .1 .0 .now ≡ f .1 .1 .1 .0 .now)
-  write-at-one a e f r q m n = (same (m .0) (n .0), same (m .1) (n .1))
-
   pub arrival-one : (a : Dens κs arrival-kinds.ps) (e f : AtExit (endedOf 1 arrival-kinds.ps arrival-kinds.r) κs) (r q : Arrived)
       → arrival.Post κs a r e → arrival.Post κs a q f → r ≡ q
   arrival-one a e f r q m n = same m n

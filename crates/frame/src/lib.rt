@@ -1,11 +1,9 @@
-// The 40-byte housekeeping frame: written into the caller's buffer at a place the caller names, and read by one table.
-// Keeps 01 "The 40-byte frame"; a frame the desk cannot take is 17, a place with no room is 18.
+// The 40-byte housekeeping frame: what it shows, and how it is read, by one table. Crate `writing` writes it.
+// Keeps 01 "The 40-byte frame"; a frame the desk cannot take is 17.
 ghost use mathlib.Core.Path.{_≡_};
-ghost use Prim.Native.Nat.{_%_, _≤_, _<_};
-ghost use mathlib.Core.List.{_++_};
-ghost use lib.ListN.{length, drop};
+ghost use Prim.Native.Nat.{_<_};
+ghost use lib.ListN.{length};
 ghost use Rattle.frame.specs.Items.{rowOf};
-ghost use Rattle.frame.specs.Write.{latchOf, quarterOf, groundAt, muxOf, frameOf, wroteOf, written};
 ghost use Rattle.frame.specs.Read.{fieldOf, readOf, allAre, arrivedOf};
 
 // What a frame shows: the present value of each item, in the order of the rows. A switch is 0 or 1.
@@ -284,133 +282,6 @@ fn wide(x: u8) -> u32
     ensures { λ r. ⌜ (r ≡ x) × (r < 256) ⌝ }
 {
     x as u32
-}
-
-fn wide_16(x: u16) -> u32
-    ensures { λ r. ⌜ r ≡ x ⌝ }
-{
-    x as u32
-}
-
-// The low eight bits.
-fn low(n: u32) -> u8
-    ensures { λ r. ⌜ r ≡ n % 256 ⌝ }
-{
-    (n % 256) as u8
-}
-
-// The latch once the frame of this index is built: the first frame of a spread number takes that number.
-pub fn latched(held: Held, index: u8, latch: u32) -> u32
-    ensures { λ r. ⌜ r ≡ latchOf held index latch ⌝ }
-{
-    let i = index % 32;
-    if i == 0 {
-        return held.long;
-    }
-    if i == 27 {
-        return wide_16(held.free);
-    }
-    latch
-}
-
-fn byte_37(held: Held, index: u8) -> u8
-    ensures { λ r. ⌜ r ≡ quarterOf held (index % 4) ⌝ }
-{
-    let i = index % 4;
-    match i {
-        0 => held.stepping % 2 * 0x10,
-        2 => held.limit % 16 * 0x10,
-        3 => held.level % 16 * 0x10,
-        _ => 0,
-    }
-}
-
-fn byte_38(held: Held, index: u8) -> u8
-    ensures { λ r. ⌜ r ≡ groundAt held (index % 8) ⌝ }
-{
-    let i = index % 8;
-    match i {
-        0 => held.ground,
-        _ => 0,
-    }
-}
-
-fn byte_39(held: Held, index: u8, latch: u32) -> u8
-    ensures { λ r. ⌜ r ≡ muxOf held latch (index % 32) ⌝ }
-{
-    let i = index % 32;
-    match i {
-        0 => low(latch / 256 / 256 / 256),
-        1 => low(latch / 256 / 256),
-        2 => low(latch / 256),
-        3 => low(latch),
-        12 => held.flap1 % 2 * 0x10
-            + held.flap2 % 2 * 0x20
-            + held.flap3 % 2 * 0x40
-            + held.clock % 2 * 0x80,
-        21 => held.check,
-        22 => held.count,
-        27 => low(latch / 256),
-        28 => low(latch),
-        31 => held.mask % 8 * 0x10,
-        _ => 0,
-    }
-}
-
-// The 40 bytes. Bits that 01 does not name stay 0.
-fn frame_bytes(held: Held, index: u8, latch: u32) -> [u8; 40]
-    ensures { λ r. ⌜ r ≡ frameOf held index latch ⌝ }
-{
-    let mut f = [0u8; 40];
-    f[0] = index % 32;
-    f[1] = held.parallel % 2 * 0x40;
-    f[2] = held.relay % 2 * 0x40;
-    f[6] = held.mux1 % 2 * 0x01 + held.mux2 % 2 * 0x08 + held.mux3 % 2 * 0x40;
-    f[7] = held.error % 16 * 0x10;
-    f[8] = held.dstop % 32 / 2;
-    f[9] = held.dstop % 2 * 0x80 + held.dstart % 32 * 0x04 + held.estop % 32 / 8;
-    f[10] = held.estop % 8 * 0x20 + held.estart % 32;
-    f[16] = held.last;
-    f[19] = held.enable % 2 * 0x80;
-    f[20] = held.reduced % 64;
-    f[36] = held.bias;
-    f[37] = byte_37(held, index);
-    f[38] = byte_38(held, index);
-    f[39] = byte_39(held, index, latch);
-    f
-}
-
-fn copy_in(src: &[u8], out: &mut [u8])
-    requires { ⌜ length (now src) ≤ length (now out) ⌝ }
-    ensures { λ _. ⌜ now (out .exit) ≡ now (src .entry) ++ drop (length (now (src .entry))) (now (out .entry)) ⌝ }
-{
-    let mut k: usize = 0;
-    while k < src.len() {
-        out[k] = src[k];
-        k += 1;
-    }
-}
-
-// The frame at the front of a slice.
-fn write(held: Held, index: u8, latch: u32, out: &mut [u8]) -> Wrote
-    ensures { λ r. ⌜ (r ≡ wroteOf 0 (now (out .entry))) × (now (out .exit) ≡ written held index latch 0 (now (out .entry))) ⌝ }
-{
-    if out.len() < 40 {
-        return Wrote::Refused(Refusal::NoRoom);
-    }
-    let f = frame_bytes(held, index, latch);
-    copy_in(&f, out);
-    Wrote::Done
-}
-
-// The frame at a place of the caller's buffer; bytes outside stay the same.
-pub fn write_at(held: Held, index: u8, latch: u32, buf: &mut [u8], at: usize) -> Wrote
-    ensures { λ r. ⌜ (r ≡ wroteOf at (now (buf .entry))) × (now (buf .exit) ≡ written held index latch at (now (buf .entry))) ⌝ }
-{
-    if buf.len() < at {
-        return Wrote::Refused(Refusal::NoRoom);
-    }
-    write(held, index, latch, &mut buf[at..])
 }
 
 // The number that stands in the item's word.

@@ -1,12 +1,12 @@
--- `frame::write` meets its contract: no room, or the 40 bytes in front of what the slice held.
+-- `writing::write` meets its contract: no room, or the 40 bytes in front of what the slice held.
 -- Assumes nothing.
 use borrow.Author.Needs.{needs}
 use mathlib.Core.Path.{sym}
 use native.Mathlib.Omega.{arith}
 use denote.Ref.{now}
 use Rattle.frame.proofs.Place.{short, room, frame-length}
-use Rattle.frame.proofs.write.Statement.{statement}
-use Rattle.frame.proofs.write.Tie as tie
+use Rattle.writing.proofs.write.Statement.{statement}
+use Rattle.writing.proofs.write.Tie as tie
 
 returns : tie.Need-returns
 returns c =

@@ -1,9 +1,9 @@
--- `frame::frame_bytes` meets its contract: 40 zeros, and each byte that 01 names stored in its place.
+-- `writing::frame_bytes` meets its contract: 40 zeros, and each byte that 01 names stored in its place.
 -- Assumes nothing.
 use borrow.Author.Needs.{needs}
 use Rattle.frame.specs.Write.{frameOf}
-use Rattle.frame.proofs.frame_bytes.Statement.{statement}
-use Rattle.frame.proofs.frame_bytes.Tie as tie
+use Rattle.writing.proofs.frame_bytes.Statement.{statement}
+use Rattle.writing.proofs.frame_bytes.Tie as tie
 
 returns : tie.Need-returns
 unfolding frameOf

@@ -1,9 +1,9 @@
--- `frame::latched` meets its contract: the two tests of `latchOf`.
+-- `writing::latched` meets its contract: the two tests of `latchOf`.
 -- Assumes nothing.
 use borrow.Author.Needs.{needs}
 use borrow.Author.Tests.{eq-eqb, ne-eqb}
-use Rattle.frame.proofs.latched.Statement.{statement}
-use Rattle.frame.proofs.latched.Tie as tie
+use Rattle.writing.proofs.latched.Statement.{statement}
+use Rattle.writing.proofs.latched.Tie as tie
 
 returns : tie.Need-returns
 returns c = simp (eq-eqb _ _ (c .if1 .taken))

@@ -1,12 +1,12 @@
--- `frame::write_at` meets its contract: what the writer does to the part from the place on, said of the whole buffer.
+-- `writing::write_at` meets its contract: what the writer does to the part from the place on, said of the whole buffer.
 -- Assumes nothing.
 use borrow.Author.Needs.{needs}
 use mathlib.Core.Path.{sym, _∙_}
 use native.Mathlib.Omega.{arith}
 use denote.Ref.{now}
 use Rattle.frame.proofs.Place.{short, placed}
-use Rattle.frame.proofs.write_at.Statement.{statement}
-use Rattle.frame.proofs.write_at.Tie as tie
+use Rattle.writing.proofs.write_at.Statement.{statement}
+use Rattle.writing.proofs.write_at.Tie as tie
 
 returns : tie.Need-returns
 returns c =

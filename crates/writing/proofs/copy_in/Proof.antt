@@ -1,4 +1,4 @@
--- `frame::copy_in` meets its contract: after k turns the slice has the first k bytes of the source in front.
+-- `writing::copy_in` meets its contract: after k turns the slice has the first k bytes of the source in front.
 -- Assumes nothing.
 use Prim.Native.Nat.{_≤_, _-_}
 use mathlib.Core.Path.{_≡_, refl}
@@ -8,9 +8,9 @@ use borrow.Author.Needs.{needs}
 use denote.Ref.{now}
 use lib.ListN.{length, length-set, take, drop}
 use lib.Seq.{take-length}
-use Rattle.frame.proofs.Copy.{copy-more}
-use Rattle.frame.proofs.copy_in.Statement.{statement}
-use Rattle.frame.proofs.copy_in.Tie as tie
+use Rattle.writing.proofs.Copy.{copy-more}
+use Rattle.writing.proofs.copy_in.Statement.{statement}
+use Rattle.writing.proofs.copy_in.Tie as tie
 
 abbrev Inv-loop : tie.InvT-loop
 Inv-loop src out₀ k₀ out k = (k ≤ length src) × (length out ≡ length out₀) × (out ≡ take k src ++ drop k out₀)

@@ -1,0 +1,3 @@
+-- What the proofs of `writing` are written with.
+pub mod Copy
+pub mod Single
