@@ -1,3 +1,2 @@
--- Laws that belong to no one function.
-pub mod Place
+-- Single outcome of the bench's functions.
 pub mod Single

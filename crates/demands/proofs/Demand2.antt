@@ -12,8 +12,7 @@ use Rattle.frame.specs.declared.Reading.the-variants.{Value}
 use Rattle.frame.specs.Items.{heldAt}
 use Rattle.frame.specs.Read.{carries, readOf}
 use Rattle.frame.proofs.Laws.{laws as frame-laws}
-use Rattle.sending.specs.Sending.{heldOf, nextLatch}
-use Rattle.bench.specs.Bench.{nextFrame}
+use Rattle.sending.specs.Sending.{heldOf, nextLatch, nextFrame}
 use Rattle.laws.specs.Runs.{Event, ours, reached}
 use Rattle.laws.proofs.Rows.{row-laws}
 use Rattle.laws.proofs.Runs.{run-laws}

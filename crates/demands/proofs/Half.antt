@@ -22,8 +22,7 @@ use Rattle.desk.specs.declared.Half.{Half}
 use Rattle.desk.specs.declared.Half.the-variants.{Nothing, Part}
 use Rattle.desk.specs.Desk.{grownOf, joined, keptAt, partly, halfAt, halfAfter, readingOf, bornAt}
 use Rattle.rig.specs.declared.Rig.{Rig}
-use Rattle.sending.specs.Sending.{heldOf, nextLatch, sent}
-use Rattle.bench.specs.Bench.{nextFrame}
+use Rattle.sending.specs.Sending.{heldOf, nextLatch, sent, nextFrame}
 use Rattle.demands.specs.History.{held, Slot, missed, whole}
 use Rattle.demands.proofs.Shown.{Run, broken, from, back, known, brought, back-one, back-more, no-run}
 

@@ -14,8 +14,7 @@ use Rattle.desk.specs.Desk.{cellsAfter, readingOf, halfAfter, slotOf, missedOf,
 use Rattle.rig.specs.declared.Rig.{Rig}
 use Rattle.rig.specs.Words.{takeOf}
 use Rattle.power.specs.Power.{spunOf, setOf}
-use Rattle.sending.specs.Sending.{heldOf, nextLatch, sent, builtOf}
-use Rattle.bench.specs.Bench.{nextFrame}
+use Rattle.sending.specs.Sending.{heldOf, nextLatch, sent, builtOf, nextFrame}
 use Rattle.laws.specs.Runs.{ours, reached}
 use Rattle.laws.specs.Runs as ran
 use Rattle.laws.proofs.Replies.{reply-laws}

@@ -9,4 +9,5 @@ pub mod Demand3
 pub mod One
 pub mod Frauds
 pub mod Cases
+pub mod Played
 pub mod Examples

@@ -15,7 +15,7 @@ use Rattle.rig.specs.declared.Reply.the-variants.{Plain, Dropped}
 use Rattle.rig.specs.Words.{takeOf}
 use Rattle.rig.specs.Replies.{refusalsOf}
 use Rattle.rig.specs.Start.{startRig}
-use Rattle.bench.specs.Bench.{nextFrame}
+use Rattle.sending.specs.Sending.{nextFrame}
 use Rattle.volts.specs.declared.Sheet.{Sheet}
 use Rattle.volts.specs.Volts.{biasOf, Shows}
 use Rattle.event.specs.Ifft.{itemAt}

@@ -12,8 +12,7 @@ use Rattle.rig.specs.declared.Taken.{Taken}
 use Rattle.rig.specs.Words.{takeOf}
 use Rattle.rig.specs.Start.{startRig}
 use Rattle.power.specs.Power.{spunOf, setOf, cutOf}
-use Rattle.sending.specs.Sending.{sent, builtOf, filledOf}
-use Rattle.bench.specs.Bench.{nextFrame}
+use Rattle.sending.specs.Sending.{sent, builtOf, filledOf, nextFrame}
 use Rattle.laws.specs.Runs.{ours}
 use Rattle.demands.specs.History.{Slot, Told}
 use Rattle.demands.specs.World.{Outfit, proved, Event, after}

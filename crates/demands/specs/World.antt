@@ -13,8 +13,7 @@ use Rattle.desk.specs.Desk.{freshDesk, slotOf, missedOf, shows}
 use Rattle.power.specs.declared.PanelSetting.{PanelSetting}
 use Rattle.rig.specs.declared.Rig.{Rig}
 use Rattle.sending.specs.declared.Built.{Built}
-use Rattle.sending.specs.Sending.{builtOf, filledOf}
-use Rattle.bench.specs.Bench.{nextFrame}
+use Rattle.sending.specs.Sending.{builtOf, filledOf, nextFrame}
 use Rattle.laws.specs.Runs.{FitsPanel, Machine, ours}
 use Rattle.demands.specs.History.{Slot, missed, whole}
 

@@ -7,7 +7,7 @@ use Rattle.base.specs.Pick.{pick}
 use Rattle.frame.specs.declared.Held.{Held}
 use Rattle.frame.specs.declared.Wrote.{Wrote}
 use Rattle.frame.specs.declared.Wrote.the-variants.{Done, Refused}
-use Rattle.frame.specs.Write.{latchOf, wroteOf, written}
+use Rattle.frame.specs.Write.{frameOf, latchOf, wroteOf, written}
 use Rattle.rig.specs.declared.Rig.{Rig}
 use Rattle.sending.specs.declared.Built.{Built}
 
@@ -55,6 +55,10 @@ heldOf r =
 -- the number that is latched as the next frame is built
 abbrev pub nextLatch : Rig → ℕ
 nextLatch r = latchOf (heldOf r) (r .sending .next) (r .sending .latch)
+
+-- the 40 bytes of the rig's next frame
+abbrev pub nextFrame : Rig → List ℕ
+nextFrame r = frameOf (heldOf r) (r .sending .next) (nextLatch r)
 
 -- A frame built: the index rises modulo 32, and the latch stands. On 18 nothing changes: nothing is latched, no frame is used up.
 abbrev pub sentWith : Wrote → Rig → ℕ → Rig

@@ -1,8 +1,8 @@
--- `bench::hand` meets its contract: the desk alone moves.
+-- `slots::hand` meets its contract: the desk alone moves.
 -- Assumes nothing.
 use borrow.Author.Needs.{needs}
-use Rattle.bench.proofs.hand.Statement.{statement}
-use Rattle.bench.proofs.hand.Tie as tie
+use Rattle.slots.proofs.hand.Statement.{statement}
+use Rattle.slots.proofs.hand.Tie as tie
 
 returns : tie.Need-returns
 returns c = simp (c .before .slot .ensures)

@@ -1,8 +1,8 @@
--- `bench::miss` meets its contract: the desk alone moves.
+-- `slots::miss` meets its contract: the desk alone moves.
 -- Assumes nothing.
 use borrow.Author.Needs.{needs}
-use Rattle.bench.proofs.miss.Statement.{statement}
-use Rattle.bench.proofs.miss.Tie as tie
+use Rattle.slots.proofs.miss.Statement.{statement}
+use Rattle.slots.proofs.miss.Tie as tie
 
 returns : tie.Need-returns
 returns c = simp (c .missed .ensures)

@@ -1,8 +1,8 @@
--- `bench::build` meets its contract: the rig alone moves, and the buffer.
+-- `slots::build` meets its contract: the rig alone moves, and the buffer.
 -- Assumes nothing.
 use borrow.Author.Needs.{needs}
-use Rattle.bench.proofs.build.Statement.{statement}
-use Rattle.bench.proofs.build.Tie as tie
+use Rattle.slots.proofs.build.Statement.{statement}
+use Rattle.slots.proofs.build.Tie as tie
 
 returns : tie.Need-returns
 returns c = (simp (c .before .before .before .build .ensures .0), c .before .before .before .build .ensures .1)

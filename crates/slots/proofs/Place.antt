@@ -15,11 +15,12 @@ use Rattle.frame.specs.declared.Wrote.the-variants.{Done, Refused}
 use Rattle.frame.specs.Write.{wroteOf, frameOf}
 use Rattle.frame.proofs.Place.{frame-length, room}
 use Rattle.rig.specs.declared.Rig.{Rig}
-use Rattle.sending.specs.Sending.{heldOf, nextLatch, sentWith, filledOf}
+use Rattle.sending.specs.Sending.{heldOf, nextLatch, nextFrame, sentWith, filledOf}
 use Rattle.desk.specs.Desk.{slotOf}
 use Rattle.bench.specs.declared.Bench.{Bench}
-use Rattle.bench.specs.declared.Sent.{Sent}
-use Rattle.bench.specs.Bench.{withRig, withDesk, builtBench, handedOf, nextFrame, heardIf, arrivedBench}
+use Rattle.bench.specs.Bench.{withRig, withDesk}
+use Rattle.slots.specs.declared.Sent.{Sent}
+use Rattle.slots.specs.Slots.{builtBench, handedOf, heardIf, arrivedBench}
 
 -- a frame that was written had room
 pub had-room : (at : ℕ) (s : List ℕ) → wroteOf at s ≡ Done → at + 40 ≤ length s

@@ -1,4 +1,4 @@
--- `bench::arrives` meets its contract: a written frame had room, stands at the named place, and is what the desk is handed.
+-- `slots::arrives` meets its contract: a written frame had room, stands at the named place, and is what the desk is handed.
 -- Assumes nothing.
 use mathlib.Core.Path.{_≡_, sym, ap, _∙_}
 use Prim.Native.Nat.{_+_, _≤_}
@@ -8,10 +8,10 @@ use lib.ListN.{length}
 use denote.Ref.{now}
 use Rattle.frame.specs.declared.Wrote.the-variants.{Done}
 use Rattle.frame.specs.Write.{wroteOf}
-use Rattle.bench.specs.declared.Sent.{Sent}
-use Rattle.bench.proofs.Place.{had-room, handed-on, refused}
-use Rattle.bench.proofs.arrives.Statement.{statement}
-use Rattle.bench.proofs.arrives.Tie as tie
+use Rattle.slots.specs.declared.Sent.{Sent}
+use Rattle.slots.proofs.Place.{had-room, handed-on, refused}
+use Rattle.slots.proofs.arrives.Statement.{statement}
+use Rattle.slots.proofs.arrives.Tie as tie
 
 add-end : tie.Need-add-end
 add-end c =

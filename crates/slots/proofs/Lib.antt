@@ -1,0 +1,3 @@
+-- Where a built frame stands in the buffer, and single outcome.
+pub mod Place
+pub mod Single

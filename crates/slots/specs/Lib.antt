@@ -1,0 +1,2 @@
+-- What passes between rig and desk.
+pub mod Slots

@@ -1,0 +1,32 @@
+-- What passes between rig and desk: each moves by its own rule, and a frame built and heard moves both.
+-- Keeps 01 "The 40-byte frame"; the rules are those of `sending` and `desk`. Assumes nothing.
+use Prim.Native.Nat.{ℕ}
+use mathlib.Core.List.{List}
+use Rattle.frame.specs.declared.Wrote.{Wrote}
+use Rattle.frame.specs.declared.Wrote.the-variants.{Done, Refused}
+use Rattle.frame.specs.Write.{wroteOf}
+use Rattle.desk.specs.Desk.{slotOf, missedOf}
+use Rattle.sending.specs.Sending.{nextFrame, sent, builtOf}
+use Rattle.bench.specs.declared.Bench.{Bench}
+use Rattle.bench.specs.Bench.{withRig, withDesk}
+use Rattle.slots.specs.declared.Sent.{Sent}
+use Rattle.slots.specs.declared.Handed.{Handed}
+
+-- a frame built at a place of the buffer s
+abbrev pub builtBench : Bench → List ℕ → ℕ → Sent
+builtBench b s at = record { bench = withRig b (builtOf (b .rig) s at .rig); wrote = builtOf (b .rig) s at .answer }
+
+-- bytes handed to the desk; a slot marked missed
+abbrev pub handedOf : Bench → List ℕ → Handed
+handedOf b f = record { bench = withDesk b (slotOf (b .desk) f .desk); answer = slotOf (b .desk) f .answer }
+
+abbrev pub missedBench : Bench → Bench
+missedBench b = withDesk b (missedOf (b .desk))
+
+-- a frame built and handed on whole; where there is no room (18), nothing happens
+abbrev pub heardIf : Wrote → Bench → Bench
+heardIf Done b = record { rig = sent (b .rig); desk = slotOf (b .desk) (nextFrame (b .rig)) .desk }
+heardIf (Refused why) b = b
+
+abbrev pub arrivedBench : Bench → List ℕ → ℕ → Sent
+arrivedBench b s at = record { bench = heardIf (wroteOf at s) b; wrote = wroteOf at s }

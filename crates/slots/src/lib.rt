@@ -1,0 +1,81 @@
+// The slots between rig and desk: a frame built, bytes handed to the desk, a slot missed; and a frame built and handed on whole.
+// Keeps 01 "The 40-byte frame"; the demands are said of these functions' definitions.
+ghost use mathlib.Core.Path.{_≡_};
+ghost use Rattle.sending.specs.Sending.{filledOf};
+ghost use Rattle.slots.specs.Slots.{builtBench, handedOf, missedBench, arrivedBench};
+use bench::Bench;
+use desk::Answer;
+use frame::Wrote;
+
+// After a frame was to be built: the bench, and whether there was room.
+pub struct Sent {
+    pub bench: Bench,
+    pub wrote: Wrote,
+}
+
+// After bytes were handed to the desk: the bench, and what the desk made of them.
+pub struct Handed {
+    pub bench: Bench,
+    pub answer: Answer,
+}
+
+// The next frame is built at a place of the caller's buffer; it is for the caller to make a slot of it, whole or missed.
+pub fn build(bench: Bench, buf: &mut [u8], at: usize) -> Sent
+    ensures { λ r. ⌜ (r ≡ builtBench bench (now (buf .entry)) at) × (now (buf .exit) ≡ filledOf (bench .rig) (now (buf .entry)) at) ⌝ }
+{
+    let was = bench.rig;
+    let desk = bench.desk;
+    let b = sending::build(was, buf, at);
+    let sent = b.rig;
+    let wrote = b.answer;
+    Sent {
+        bench: Bench { rig: sent, desk },
+        wrote,
+    }
+}
+
+// Bytes come to the desk in a slot.
+pub fn hand(bench: Bench, frame: &[u8]) -> Handed
+    ensures { λ r. ⌜ r ≡ handedOf bench (now (frame .entry)) ⌝ }
+{
+    let rig = bench.rig;
+    let was = bench.desk;
+    let t = desk::slot(was, frame);
+    let heard = t.desk;
+    let answer = t.answer;
+    Handed {
+        bench: Bench { rig, desk: heard },
+        answer,
+    }
+}
+
+// A slot marked missed.
+pub fn miss(bench: Bench) -> Bench
+    ensures { λ r. ⌜ r ≡ missedBench bench ⌝ }
+{
+    let rig = bench.rig;
+    let was = bench.desk;
+    let missed = desk::missed(was);
+    Bench { rig, desk: missed }
+}
+
+// The next frame is built at a place of the caller's buffer, and from there handed to the desk whole.
+pub fn arrives(bench: Bench, buf: &mut [u8], at: usize) -> Sent
+    ensures { λ r. ⌜ (r ≡ arrivedBench bench (now (buf .entry)) at) × (now (buf .exit) ≡ filledOf (bench .rig) (now (buf .entry)) at) ⌝ }
+{
+    let sent = build(bench, buf, at);
+    let wrote = sent.wrote;
+    let after = sent.bench;
+    match wrote {
+        Wrote::Done => {
+            let end = at + 40;
+            let h = hand(after, &buf[at..end]);
+            let next = h.bench;
+            Sent { bench: next, wrote }
+        }
+        Wrote::Refused(_) => Sent {
+            bench: after,
+            wrote,
+        },
+    }
+}
