@@ -20,14 +20,16 @@ use Rattle.volts.specs.declared.Sheet.{Sheet}
 use Rattle.volts.specs.Volts.{biasOf, Shows}
 use Rattle.event.specs.Ifft.{itemAt}
 
--- the rig after some words from the start, and the reply to one word more
+-- the rig after some words
 unfoldable pub sentTo : Rig → List ℕ → Rig
 sentTo r [] = r
 sentTo r (w ∷ ws) = sentTo (takeOf r w .rig) ws
 
+-- the same from the start
 abbrev pub after : List ℕ → Rig
 after ws = sentTo startRig ws
 
+-- what a case says
 pub data Case : Type 0 where
   -- after the words the last word gets this reply, which gives these refusals
   reply : List ℕ → ℕ → Reply → List ℕ → Case
@@ -42,6 +44,7 @@ pub data Case : Type 0 where
   -- a matrix item whose second word has these two bytes is good, or bad
   item : ℕ → ℕ → Bool → Case
 
+-- when it is true, of the definitions that the functions are proved to meet
 abbrev pub Holds : Case → Type 0
 Holds (reply ws w r ns) = (takeOf (after ws) w .reply ≡ r) × (refusalsOf r ≡ ns)
 Holds (byte ws k b) = getD (nextFrame (after ws)) k 0 ≡ b
@@ -51,13 +54,15 @@ Holds (count ws n) = after ws .faults .count ≡ n
 Holds (volts d z x) = (biasOf d ≡ z) × ((g : ℕ) (s : Sheet) → Shows d g s → s .bias ≡ x)
 Holds (item x y g) = itemAt (0 ∷ 0 ∷ x ∷ y ∷ []) 0 .good ≡ g
 
--- the energy window, the direction window
+-- the energy window of cases a and b, without its end word
 abbrev pub blockA : List ℕ
 blockA = 0x6402 ∷ 0xA401 ∷ 0xA400 ∷ []
 
+-- the direction window of case c, without its end word
 abbrev pub blockC : List ℕ
 blockC = 0x6302 ∷ 0xA303 ∷ 0xA313 ∷ []
 
+-- the table
 abbrev pub cases : List Case
 cases =
     -- a. 6402 A401 A400 E415: accepted; byte 10 is 01h
@@ -98,5 +103,6 @@ abbrev pub Every : List Case → Type 0
 Every [] = Unit {0}
 Every (c ∷ cs) = Holds c × Every cs
 
+-- the bench cases of 01, together
 abbrev pub AllCases : Type 0
 AllCases = Every cases

@@ -26,10 +26,11 @@ use Rattle.demands.specs.Demand2.{Demand2For}
 use Rattle.demands.specs.Demand3.{Demand3For}
 use Rattle.demands.specs.One.{deskOf, rigOf}
 
+-- our desk's look, for the frauds that cheat elsewhere
 abbrev pub ours-look : Desk → Item → Shown
 ours-look d item = shows d (rowOf item)
 
--- 1. a rig that refuses everything, whatever its grounds
+-- a reply that refuses
 abbrev pub Refusing : Reply → Type 0
 Refusing (Plain answer.Accepted) = ⊥
 Refusing (Plain answer.Waiting) = ⊥
@@ -39,6 +40,7 @@ Refusing (Dropped answer.Accepted) = ⊥
 Refusing (Dropped answer.Waiting) = ⊥
 Refusing (Dropped (answer.Refused why)) = Unit {0}
 
+-- 1. a rig that refuses everything, whatever its grounds
 abbrev pub RefusesEverything : (Rig → ℕ → Taken) → Type 0
 RefusesEverything take = (r : Rig) (w : ℕ) → Refusing (take r w .reply)
 
@@ -54,22 +56,25 @@ idler = deskOf freshDesk (λ d f. record { answer = Heard; desk = d }) (λ d. d)
 abbrev pub blanker : Outfit
 blanker = deskOf freshDesk slotOf (λ d. freshDesk) ours-look
 
--- or holds back what came: once it knows the bias, it lets nothing new in
+-- is an item shown as known?
 abbrev pub isKnown : Shown → Bool
 isKnown Unknown = false
 isKnown (Known v a) = true
 
+-- a slot at which everything known grows older, told as heard
 abbrev pub aged : Desk → Received
 aged d = record { answer = Heard; desk = missedOf d }
 
+-- or holds back what came: once it knows the bias, it lets nothing new in
 abbrev pub hoarder : Outfit
 hoarder = deskOf freshDesk (λ d f. pick (isKnown (shows d 12)) (aged d) (slotOf d f)) missedOf ours-look
 
--- 4. a desk that reads the first round, until every item is known, and then only pretends
+-- is every item known?
 abbrev pub allKnown : List Cell → Bool
 allKnown [] = true
 allKnown (c ∷ cs) = pick (isKnown (c .shown)) (allKnown cs) false
 
+-- 4. a desk that reads the first round, until every item is known, and then only pretends
 abbrev pub pretender : Outfit
 pretender = deskOf freshDesk (λ d f. pick (allKnown (d .cells)) (aged d) (slotOf d f)) missedOf ours-look
 

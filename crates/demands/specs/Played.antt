@@ -23,6 +23,7 @@ afterIt w e = benchOf (next proved w e)
 abbrev pub builtAt : World → List ℕ → ℕ → Bench
 builtAt w b at = builtBench (benchOf w) b at .bench
 
+-- event by event, what the code does
 pub record Played : Type 0 where
   pub fresh : benchOf (start proved) ≡ freshBench
   -- what happens to the rig alone

@@ -43,17 +43,21 @@ proved =
       look = λ d item. shows d (rowOf item);
     }
 
+-- rig, desk, and every slot so far, the newest first
 pub record World : Type 0 where
   pub rig : Rig
   pub desk : Desk
   pub past : List Slot
 
+-- fill: 40 equal bytes C0h or FFh, which is a missed slot
 abbrev pub fillC0 : List ℕ
 fillC0 = replicate 40 0xC0
 
+-- the other fill
 abbrev pub fillFF : List ℕ
 fillFF = replicate 40 0xFF
 
+-- everything that can happen
 pub data Event : Type 0 where
   -- a word of 16 bits, a spin, a setting by the instructor, a power cut: the desk hears nothing
   word : (w : ℕ) → w < 0x10000 → Event
@@ -76,9 +80,11 @@ pub data Event : Type 0 where
   torn : (f : List ℕ) → (length f ≡ 40 → ⊥) → Event
 
 module _ (o : Outfit) where
+  -- fresh rig, fresh desk, no slot yet
   abbrev pub start : World
   start = record { rig = o .rig .start; desk = o .fresh; past = [] }
 
+  -- the world with another rig: no slot passes
   abbrev pub withRig : World → Rig → World
   withRig w r = record { rig = r; desk = w .desk; past = w .past }
 
@@ -90,6 +96,7 @@ module _ (o : Outfit) where
   abbrev pub unbuilt : World → Desk → World
   unbuilt w d = record { rig = w .rig; desk = d; past = missed ∷ w .past }
 
+  -- what each event does to the world
   abbrev pub next : World → Event → World
   next w (word x h) = withRig w (o .rig .take (w .rig) x .rig)
   next w spin = withRig w (o .rig .spin (w .rig))
@@ -105,6 +112,7 @@ module _ (o : Outfit) where
   next w (noRoom b at h) = withRig w (o .build (w .rig) b at .rig)
   next w (torn f h) = record { rig = w .rig; desk = o .slot (w .desk) f .desk; past = w .past }
 
+  -- events in order, any number of them
   unfoldable pub run : World → List Event → World
   run w [] = w
   run w (e ∷ es) = run (next w e) es

@@ -56,13 +56,14 @@ After r w q (Dropped Waiting) =
 After r w q (Dropped (Refused why)) =
     (r .pending .waiting ≡ true) × Unmoved r q × (q .faults ≡ booked (bookedDrop r) (highOf w) (numberOf why))
 
--- does the word close the pending block: an end word of its code, after exactly n data words?
+-- is it an end word?
 abbrev pub isEnd : Kind → Bool
 isEnd Single = false
 isEnd Head = false
 isEnd Data = false
 isEnd End = true
 
+-- does the word close the pending block: an end word of its code, after exactly n data words?
 abbrev pub closing : Rig → ℕ → Bool
 closing r w = r .pending .waiting && (isEnd (kindOf (highOf w)) && closes (r .pending) (highOf w))
 
@@ -84,6 +85,7 @@ abbrev pub Never : ℕ → List ℕ → Type 0
 Never n [] = Unit {0}
 Never n (x ∷ xs) = (x ≡ n → ⊥) × Never n xs
 
+-- What a word may move, by the reply it gets, of any function that takes words.
 pub record ReplyLaws (take : Rig → ℕ → Taken) : Type 0 where
   -- what the reply's kind lets move has moved, and nothing else
   pub moves : (r : Rig) (w : ℕ) → After r w (take r w .rig) (take r w .reply)

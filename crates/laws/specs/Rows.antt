@@ -26,6 +26,7 @@ use Rattle.laws.specs.Replies.{closing, ReplyLaws}
 abbrev pub single : ℕ → ℕ → ℕ
 single code low = code * 256 + low
 
+-- no block is pending
 abbrev pub Idle : Rig → Type 0
 Idle r = r .pending .waiting ≡ false
 
@@ -71,13 +72,15 @@ pub record Unlisted (code : ℕ) : Type 0 where
   pub not2B : code ≡ 0x2B → ⊥
   pub not2D : code ≡ 0x2D → ⊥
 
--- a closed block of the pending p, whose end word's low byte is the received check: 0Bh, 0Fh, 0Eh in this order, then apply
+-- the first data byte of a pending block
 abbrev pub first : Pending → ℕ
 first p = getD (p .bytes) 0 0
 
+-- its second
 abbrev pub second : Pending → ℕ
 second p = getD (p .bytes) 1 0
 
+-- a closed block of the pending p, whose end word's low byte is the received check: 0Bh, 0Fh, 0Eh in this order, then apply
 pub data ClosedWhen (c : Core) (p : Pending) (received : ℕ) : Verdict → Type 0 where
   wrongCheck : (received ≡ checkOf p → ⊥) → ClosedWhen c p received (Deny WrongCheck)
   unknown : received ≡ checkOf p → (codeOf (p .head) ≡ 0x20 → ⊥) → (codeOf (p .head) ≡ 0x23 → ⊥) → (codeOf (p .head) ≡ 0x24 → ⊥)

@@ -54,6 +54,7 @@ pub record Machine : Type 0 where
 abbrev pub ours : Machine
 ours = record { start = startRig; take = takeOf; spin = spunOf; set = setOf; cut = cutOf; sent = sent }
 
+-- what each event does to the rig
 abbrev pub after : Machine → Rig → Event → Rig
 after m r (word w h) = m .take r w .rig
 after m r spin = m .spin r
@@ -61,6 +62,7 @@ after m r (set s h) = m .set r s
 after m r cut = m .cut r
 after m r frame = m .sent r
 
+-- events in order, any number of them
 unfoldable pub run : Machine → Rig → List Event → Rig
 run m r [] = r
 run m r (e ∷ es) = run m (after m r e) es
@@ -82,7 +84,7 @@ blank = record { refusals = 0; spins = 0; error = 0x00; last = 0xFF; check = 0x0
 abbrev pub named : Rig → ℕ → ℕ
 named r w = pick (r .pending .waiting) (r .pending .head) (highOf w)
 
--- the number and the byte of the latest refusal, after this reply
+-- the number of the latest refusal, after this reply
 abbrev pub latestError : ℕ → Reply → ℕ
 latestError old (Plain Accepted) = old
 latestError old (Plain Waiting) = old
@@ -92,6 +94,7 @@ latestError old (Dropped Accepted) = dropNumber
 latestError old (Dropped Waiting) = dropNumber
 latestError old (Dropped (Refused why)) = numberOf why
 
+-- the byte that the latest refusal names, after this reply
 abbrev pub latestCode : ℕ → Rig → ℕ → Reply → ℕ
 latestCode old r w (Plain Accepted) = old
 latestCode old r w (Plain Waiting) = old
@@ -101,6 +104,7 @@ latestCode old r w (Dropped Accepted) = named r w
 latestCode old r w (Dropped Waiting) = named r w
 latestCode old r w (Dropped (Refused why)) = highOf w
 
+-- what an event adds: each refusal a word gets is counted, each spin; a power cut begins anew
 abbrev pub entered : Machine → Rig → Event → Ledger → Ledger
 entered m r (word w h) l =
     let reply = m .take r w .reply in
@@ -116,14 +120,16 @@ entered m r (set s h) l = l
 entered m r cut l = blank
 entered m r frame l = l
 
+-- the ledger of a run that begins at the rig r with the ledger l
 unfoldable pub ledger : Machine → Rig → Ledger → List Event → Ledger
 ledger m r l [] = l
 ledger m r l (e ∷ es) = ledger m (after m r e) (entered m r e l) es
 
--- the rig and the ledger at the end of a run from the start
+-- the rig at the end of a run from the start
 abbrev pub reached : Machine → List Event → Rig
 reached m es = run m (m .start) es
 
+-- the ledger at the end of a run from the start
 abbrev pub given : Machine → List Event → Ledger
 given m es = ledger m (m .start) blank es
 

@@ -12,21 +12,23 @@ use Rattle.bench.specs.Bench.{withRig, withDesk}
 use Rattle.slots.specs.declared.Sent.{Sent}
 use Rattle.slots.specs.declared.Handed.{Handed}
 
--- a frame built at a place of the buffer s
+-- the next frame built at a place of the buffer s: the rig alone moves; where there is no room it stays as it was (18)
 abbrev pub builtBench : Bench → List ℕ → ℕ → Sent
 builtBench b s at = record { bench = withRig b (builtOf (b .rig) s at .rig); wrote = builtOf (b .rig) s at .answer }
 
--- bytes handed to the desk; a slot marked missed
+-- bytes handed to the desk: the desk alone moves; bytes that are not 40 leave it as it was (17)
 abbrev pub handedOf : Bench → List ℕ → Handed
 handedOf b f = record { bench = withDesk b (slotOf (b .desk) f .desk); answer = slotOf (b .desk) f .answer }
 
+-- a slot marked missed: every known item is a slot older, and a number half read is forgotten
 abbrev pub missedBench : Bench → Bench
 missedBench b = withDesk b (missedOf (b .desk))
 
--- a frame built and handed on whole; where there is no room (18), nothing happens
+-- once the frame is written, the desk hears its 40 bytes; where there was no room (18), nothing happens
 abbrev pub heardIf : Wrote → Bench → Bench
 heardIf Done b = record { rig = sent (b .rig); desk = slotOf (b .desk) (nextFrame (b .rig)) .desk }
 heardIf (Refused why) b = b
 
+-- the next frame built at a place of the buffer s and handed on whole
 abbrev pub arrivedBench : Bench → List ℕ → ℕ → Sent
 arrivedBench b s at = record { bench = heardIf (wroteOf at s) b; wrote = wroteOf at s }
