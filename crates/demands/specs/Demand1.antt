@@ -22,8 +22,7 @@ use Rattle.event.specs.Ifft.{eventOf, itemOf}
 use Rattle.event.specs.Order.{eventNumber, itemNumber, directRefusals, ifftRefusals}
 use Rattle.demands.specs.World.{Outfit}
 
--- Each entry point takes every word, frame and buffer length and ends with a definite answer. Bad input is refused by a number from the table, and what
--- a refusal changes in the rig, the desk and a lent buffer is exactly what the rules list.
+-- demand 1, of any rig and desk
 pub record Demand1For (o : Outfit) : Type 0 where
   -- 03h-0Fh: what a word may move, by the reply it gets; a refusal moves error code, last invalid code and count, and ends a pending block
   pub words : ReplyLaws (o .rig .take)

@@ -30,8 +30,7 @@ use Rattle.event.specs.declared.Direction.{Direction}
 use Rattle.event.specs.Event.{dOf, hasD, directionOf}
 use Rattle.demands.specs.World.{Outfit}
 
--- Each command word, spin and power cut changes the rig as the Guide, with 01's rules for its gaps, says. Frames are written and read by its layout;
--- nominal and burst blocks are taken apart by its tables.
+-- demand 2, of any rig and desk
 pub record Demand2For (o : Outfit) : Type 0 where
   -- each row of the command table: accepted exactly if .., and then exactly this moves; heads, data and end words, closed and swallowed blocks
   pub rows : RowLaws (o .rig .take)

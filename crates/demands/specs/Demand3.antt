@@ -20,7 +20,7 @@ enough = frames 35
 abbrev pub thenWhole : Outfit → List Event → Frames → World
 thenWhole o es n = run o (after o es) (replicate (n .0) arrives)
 
--- What the desk shows, after any run, is what the history of slots tells; and a round of whole slots shows everything.
+-- demand 3, of any rig and desk
 pub record Demand3For (o : Outfit) : Type 0 where
   -- Each value shown is what the rig held when the (first) frame that brought it was built, with its true age in slots up to the ceiling; unknown only
   -- until an unbroken bringing; the latest is shown.

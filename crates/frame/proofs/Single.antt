@@ -7,13 +7,18 @@ use denote.Triple.Clauses.{AtExit}
 use borrow.Fn.Kinds.{Dens, endedOf}
 use Rattle.base.proofs.Single.{same}
 use Rattle.frame.specs.declared.Item.{Item}
+use Rattle.frame.specs.declared.Refusal.{Refusal}
 use Rattle.frame.specs.declared.Arrived.{Arrived}
 use Rattle.frame.specs.declared.Reading.{Reading}
+use Rattle.frame.proofs.number.Reads as number
 use Rattle.frame.proofs.row_of.Reads as row-of
 use Rattle.frame.proofs.arrival.Kinds as arrival-kinds
 use Rattle.frame.proofs.arrival.Reads as arrival
 use Rattle.frame.proofs.read.Kinds as read-kinds
 use Rattle.frame.proofs.read.Reads as read
+
+pub number-one : (f : Refusal) (r q : ℕ) → number.Post tt (f, tt) r (f, tt) → number.Post tt (f, tt) q (f, tt) → r ≡ q
+number-one f r q m n = same m n
 
 pub row-of-one : (x : Item) (r q : ℕ) → row-of.Post tt (x, tt) r (x, tt) → row-of.Post tt (x, tt) q (x, tt) → r ≡ q
 row-of-one x r q m n = same m n

@@ -3,7 +3,7 @@
 ghost use mathlib.Core.Path.{_≡_};
 ghost use Prim.Native.Nat.{_<_};
 ghost use lib.ListN.{length};
-ghost use Rattle.frame.specs.Items.{rowOf};
+ghost use Rattle.frame.specs.Items.{rowOf, numberOf};
 ghost use Rattle.frame.specs.Read.{fieldOf, readOf, allAre, arrivedOf};
 
 // What a frame shows: the present value of each item, in the order of the rows. A switch is 0 or 1.
@@ -243,6 +243,16 @@ const PHASE: [u8; 27] = [
     3,
     28,
 ];
+
+// The number of a refusal (01, "What the numbers mean").
+pub fn number(refusal: Refusal) -> u8
+    ensures { λ r. ⌜ r ≡ numberOf refusal ⌝ }
+{
+    match refusal {
+        Refusal::NotForty => 17,
+        Refusal::NoRoom => 18,
+    }
+}
 
 pub fn row_of(item: Item) -> usize
     ensures { λ r. ⌜ r ≡ rowOf item ⌝ }
