@@ -1,5 +1,4 @@
 -- The laws of the lister.
-pub mod Copy
 pub mod Puts
 pub mod Pieces
 pub mod Laws

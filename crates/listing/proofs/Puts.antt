@@ -7,6 +7,8 @@ use native.Mathlib.Nat.{le-of-eq, add-zero, zero-add, add-assoc}
 use native.Mathlib.Omega.{arith}
 use lib.ListN.{length, take, drop, length-append, length-drop, take-append-drop, drop-of-length-le}
 use lib.Seq.{take-append-seam, drop-append-add, length-take-le, take-all, drop-drop}
+use Rattle.base.specs.Copied.{copied}
+use Rattle.base.proofs.Copy.{copied-whole}
 use Rattle.listing.specs.Page.{put, Puts, atFront, Within}
 
 -- after a list of n elements, a text at n goes behind it
@@ -49,7 +51,8 @@ front {s} {p} h =
 
 -- what a copy puts at the front of the part from `at` on, said of the whole page
 pub placed : (at : ℕ) (s p : List ℕ) → at + length s ≤ length p
-    → take at p ++ ((s ++ drop (length s) (take (length p - at) (drop at p))) ++ drop (length p - at) (drop at p)) ≡ put at s p
+    → take at p ++ (copied s (take (length p - at) (drop at p)) ++ drop (length p - at) (drop at p)) ≡ put at s p
 placed at s p room =
     rw (take-all (length p - at) (drop at p) (le-of-eq (length-drop at p)))
-    (rw (drop-of-length-le (drop at p) {i = length p - at} (le-of-eq (length-drop at p))) (simp (append-nil, drop-drop)))
+    (rw (drop-of-length-le (drop at p) {i = length p - at} (le-of-eq (length-drop at p)))
+    (rw (copied-whole s (drop at p) (simp length-drop (omega arith))) (simp (append-nil, drop-drop))))

@@ -3,7 +3,7 @@
 ghost use mathlib.Core.Path.{_≡_};
 ghost use mathlib.Core.List.{_++_};
 ghost use Prim.Native.Nat.{_+_, _*_, _≤_, _<_, min};
-ghost use lib.ListN.{length, take, drop};
+ghost use lib.ListN.{length, take};
 ghost use Rattle.listing.specs.Text.{digit, hexByte, hexWord, decimal, invalid, firstLine, answerText, answerLine, droppedLine, linesOf, lastLine};
 ghost use Rattle.listing.specs.Listing.{startLister, afterByte, saidByte, after, said, endOf, listed};
 ghost use Rattle.listing.specs.Page.{atFront, Within, Puts};
@@ -50,23 +50,12 @@ fn digit_of(d: u8) -> u8
     b'A' + (d - 10)
 }
 
-fn copy_in(src: &[u8], out: &mut [u8])
-    requires { ⌜ length (now src) ≤ length (now out) ⌝ }
-    ensures { λ _. ⌜ now (out .exit) ≡ now (src .entry) ++ drop (length (now (src .entry))) (now (out .entry)) ⌝ }
-{
-    let mut k: usize = 0;
-    while k < src.len() {
-        out[k] = src[k];
-        k += 1;
-    }
-}
-
 // A text into the page at a place; answers the place after it.
 fn put_text(text: &[u8], page: &mut [u8], at: usize) -> usize
     requires { ⌜ at + length (now text) ≤ length (now page) ⌝ }
     ensures { λ r. ⌜ Puts at (now (text .entry)) (now (page .entry)) r (now (page .exit)) ⌝ }
 {
-    copy_in(text, &mut page[at..]);
+    base::bytes::copy_in(text, &mut page[at..]);
     at + text.len()
 }
 

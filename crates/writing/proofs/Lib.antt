@@ -1,3 +1,2 @@
--- What the proofs of `writing` are written with.
-pub mod Copy
+-- Single outcome of the writer's functions.
 pub mod Single

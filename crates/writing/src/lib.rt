@@ -1,9 +1,7 @@
 // The 40-byte frame written: into the caller's buffer, at a place the caller names.
 // Keeps 01 "The 40-byte frame"; a place with no room is 18. What stands in each byte is said in crate `frame`.
 ghost use mathlib.Core.Path.{_≡_};
-ghost use Prim.Native.Nat.{_%_, _≤_};
-ghost use mathlib.Core.List.{_++_};
-ghost use lib.ListN.{length, drop};
+ghost use Prim.Native.Nat.{_%_};
 ghost use Rattle.frame.specs.Write.{latchOf, quarterOf, groundAt, muxOf, frameOf, wroteOf, written};
 use frame::Held;
 use frame::Refusal;
@@ -103,17 +101,6 @@ fn frame_bytes(held: Held, index: u8, latch: u32) -> [u8; 40]
     f
 }
 
-fn copy_in(src: &[u8], out: &mut [u8])
-    requires { ⌜ length (now src) ≤ length (now out) ⌝ }
-    ensures { λ _. ⌜ now (out .exit) ≡ now (src .entry) ++ drop (length (now (src .entry))) (now (out .entry)) ⌝ }
-{
-    let mut k: usize = 0;
-    while k < src.len() {
-        out[k] = src[k];
-        k += 1;
-    }
-}
-
 // The frame at the front of a slice.
 fn write(held: Held, index: u8, latch: u32, out: &mut [u8]) -> Wrote
     ensures { λ r. ⌜ (r ≡ wroteOf 0 (now (out .entry))) × (now (out .exit) ≡ written held index latch 0 (now (out .entry))) ⌝ }
@@ -122,7 +109,7 @@ fn write(held: Held, index: u8, latch: u32, out: &mut [u8]) -> Wrote
         return Wrote::Refused(Refusal::NoRoom);
     }
     let f = frame_bytes(held, index, latch);
-    copy_in(&f, out);
+    base::bytes::copy_in(&f, out);
     Wrote::Done
 }
 
