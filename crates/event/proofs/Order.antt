@@ -15,13 +15,13 @@ use Rattle.block.specs.Parts.{hidden, locateOf}
 use Rattle.block.specs.Order.{firstOf}
 use Rattle.event.specs.declared.Count.{Count}
 use Rattle.event.specs.declared.Count.the-variants as C
-use Rattle.event.specs.Event.{among, directOf}
+use Rattle.event.specs.Event.{nthOf, directOf}
 use Rattle.event.specs.Ifft.{wrong, countOf, eventIn, eventOf, itemIn, itemOf}
 use Rattle.event.specs.Order.{eventNumber, itemNumber, directRefusals, ifftRefusals}
 
 module _ (b : List ℕ) (n : ℕ) where
   pub direct-order : eventNumber (directOf b n) ≡ firstOf (directRefusals b n)
-  unfolding directOf among locateOf layoutOf
+  unfolding directOf nthOf locateOf layoutOf
   direct-order =
       split (ltb (length b) 3) (λ s. simp s)
       (λ s. split (nm b)

@@ -58,14 +58,14 @@ inPart b n (L.At at k) = Is (eventAt b (at + 3 * n))
 inPart b n (L.Refused r) = Refused r
 
 -- 22 beyond the last, then 23
-unfoldable pub among : List ℕ → ℕ → ℕ → Evented
-among b n count = pick (leb count n) (Refused Beyond) (inPart b n (locateOf b DirectEvents))
+unfoldable pub nthOf : List ℕ → ℕ → ℕ → Evented
+nthOf b n count = pick (leb count n) (Refused Beyond) (inPart b n (locateOf b DirectEvents))
 
 -- what is no block is refused before its events are counted
 abbrev pub inLayout : Layout → List ℕ → ℕ → Evented
 inLayout (Bad r) b n = Refused r
-inLayout (Nm d1 d2) b n = among b n 20
-inLayout (Bm1 d1 d2) b n = among b n 106
+inLayout (Nm d1 d2) b n = nthOf b n 20
+inLayout (Bm1 d1 d2) b n = nthOf b n 106
 
 unfoldable pub directOf : List ℕ → ℕ → Evented
 directOf b n = inLayout (layoutOf b) b n

@@ -4,7 +4,7 @@ ghost use mathlib.Core.Path.{_≡_};
 ghost use Prim.Native.Nat.{_+_, _*_, _≤_, _<_};
 ghost use lib.ListN.{length};
 ghost use Rattle.block.specs.Layout.{layoutOf};
-ghost use Rattle.event.specs.Event.{directionOf, eventAt, eventsIn, among, directOf};
+ghost use Rattle.event.specs.Event.{directionOf, eventAt, eventsIn, nthOf, directOf};
 ghost use Rattle.event.specs.Ifft.{turn, wrong, countOf, wordAt, itemAt, eventOf, itemOf};
 use block::Layout;
 use block::Located;
@@ -78,7 +78,7 @@ fn event_at(b: &[u8], at: usize) -> Event
 // 22 before 23: a number beyond the last is never called hidden.
 fn direct(b: &[u8], n: usize, count: usize) -> Evented
     requires { ⌜ count ≡ eventsIn (layoutOf (now b)) ⌝ }
-    ensures { λ r. ⌜ r ≡ among (now (b .entry)) n count ⌝ }
+    ensures { λ r. ⌜ r ≡ nthOf (now (b .entry)) n count ⌝ }
 {
     if count <= n {
         return Evented::Refused(Refusal::Beyond);

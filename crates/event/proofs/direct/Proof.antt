@@ -12,7 +12,7 @@ use Rattle.block.specs.declared.Located.the-variants.{At}
 use Rattle.block.specs.Layout.{layoutOf}
 use Rattle.block.specs.Parts.{locateOf}
 use Rattle.event.specs.declared.Evented.the-variants.{Is}
-use Rattle.event.specs.Event.{eventsIn, among}
+use Rattle.event.specs.Event.{eventsIn, nthOf}
 use Rattle.event.proofs.Laws.{events-in}
 use Rattle.event.proofs.direct.Statement.{statement}
 use Rattle.event.proofs.direct.Tie as tie
@@ -24,7 +24,7 @@ fits : (c : tie.After-place) → c .place .given .0 .0 + 3 * eventsIn (layoutOf 
 fits c = events-in _ _ _ (here c)
 
 returns : tie.Need-returns
-unfolding among
+unfolding nthOf
 returns c = simp (le-leb _ _ (c .if1 .taken))
 
 mul-event-at : tie.Need-mul-event-at
@@ -37,12 +37,12 @@ event-at-requires : tie.Need-event-at-requires
 event-at-requires c κs = omega (arith, fits (c .before))
 
 returns-2 : tie.Need-returns-2
-unfolding among
+unfolding nthOf
 returns-2 c =
     simp (lt-leb _ _ (c .before .before .before .before .before .if1 .left), here (c .before .before)) (ap Is (c .event-at .ensures))
 
 returns-3 : tie.Need-returns-3
-unfolding among
+unfolding nthOf
 returns-3 c =
     let e = sym (c .before .before .before .locate .ensures) ∙ c .before .place2 .given .1 in
     simp (lt-leb _ _ (c .before .before .before .before .if1 .left), e)
