@@ -1,59 +1,16 @@
 // 01's cases a to l, run by the compiled code.
 // Keeps 01 "Bench cases"; crate `demands` proves them of the definitions.
 use super::print;
+use super::steps;
 use bench::Bench;
 use event::Itemed;
-use rig::Answer;
-use rig::Reply;
-
-fn say_answer(answer: Answer) {
-    match answer {
-        Answer::Accepted => print::text(b" accepted"),
-        Answer::Waiting => print::text(b" waiting"),
-        Answer::Refused(why) => {
-            print::text(b" refused ");
-            print::byte(judge::number(why));
-        }
-    }
-}
-
-fn say(reply: Reply) {
-    match reply {
-        Reply::Plain(answer) => say_answer(answer),
-        Reply::Swallowed => print::text(b" dropped 03h"),
-        Reply::Dropped(answer) => {
-            print::text(b" dropped 03h, then");
-            say_answer(answer);
-        }
-    }
-}
-
-fn say_word(word: u16, reply: Reply) {
-    print::text(b"word ");
-    print::word(word);
-    say(reply);
-    print::text(b"\n");
-}
-
-// A word sent, with its line.
-pub(crate) fn send(bench: Bench, word: u16) -> Bench {
-    let worded = bench::word(bench, word);
-    let reply = worded.reply;
-    say_word(word, reply);
-    worded.bench
-}
-
-pub(crate) fn send_four(bench: Bench, head: u16, first: u16, second: u16, end: u16) -> Bench {
-    send(send(send(send(bench, head), first), second), end)
-}
 
 // A word sent so many times, with no line.
 fn send_quietly(bench: Bench, word: u16, times: u32) -> Bench {
     let mut b = bench;
     let mut i: u32 = 0;
     while i < times {
-        let worded = bench::word(b, word);
-        b = worded.bench;
+        b = bench::word(b, word).bench;
         i += 1;
     }
     b
@@ -65,9 +22,10 @@ fn title(name: &[u8]) {
     print::text(b"\n");
 }
 
-fn case_of(name: &[u8]) -> Bench {
+// A fresh bench, and the words of a case.
+fn case_of(name: &[u8], words: &[u16]) -> Bench {
     title(name);
-    bench::fresh()
+    steps::send_all(bench::fresh(), words)
 }
 
 fn show(name: &[u8], value: u8) {
@@ -95,33 +53,42 @@ fn say_frame_byte(index: u8, k: usize, value: u8) {
 // A byte of the next frame.
 fn show_frame_byte(bench: Bench, k: usize) {
     let mut f = [0u8; 40];
-    bench::build(bench, &mut f, 0);
+    slots::build(bench, &mut f, 0);
     if k < 40 {
         say_frame_byte(f[0], k, f[k]);
     }
 }
 
-// Words, and what they leave in frames.
-fn blocks() {
-    let a = send_four(case_of(b"a"), 0x6402, 0xA401, 0xA400, 0xE415);
+fn energy_window() {
+    let a = case_of(b"a", &[0x6402, 0xA401, 0xA400, 0xE415]);
     show_frame_byte(a, 10);
-    let b = send_four(case_of(b"b"), 0x6402, 0xA401, 0xA400, 0xE407);
+}
+
+fn wrong_check() {
+    let b = case_of(b"b", &[0x6402, 0xA401, 0xA400, 0xE407]);
     show(b"last check ", b.rig.check);
-    let c = send_four(case_of(b"c"), 0x6302, 0xA303, 0xA313, 0xE346);
+}
+
+fn direction_window() {
+    let c = case_of(b"c", &[0x6302, 0xA303, 0xA313, 0xE346]);
     show_frame_byte(c, 8);
     show_frame_byte(c, 9);
 }
 
-fn singles() {
-    send(case_of(b"d"), 0x0822);
-    send(case_of(b"e"), 0x2805);
-    send(send(case_of(b"f"), 0x0802), 0x2805);
-    let g = send(case_of(b"g"), 0x29FA);
+fn limit() {
+    let g = case_of(b"g", &[0x29FA]);
     show_small(b"limit ", g.rig.core.supply.limit);
-    let full = send_quietly(case_of(b"h"), 0x0800, 255);
-    show_small(b"invalid count ", full.rig.faults.count);
-    let over = send(full, 0x0800);
-    show_small(b"invalid count ", over.rig.faults.count);
+}
+
+fn show_count(bench: Bench) {
+    show_small(b"invalid count ", bench.rig.faults.count);
+}
+
+fn count() {
+    title(b"h");
+    let full = send_quietly(bench::fresh(), 0x0800, 255);
+    show_count(full);
+    show_count(steps::send(full, 0x0800));
 }
 
 // The size of a count.
@@ -157,12 +124,6 @@ fn readings() {
     let high = volts::sheet_of(0xFF, 0xFF);
     volts(b"bias FFh", high.bias);
     volts(b"ground FFh", high.ground);
-}
-
-fn heads() {
-    send(send(case_of(b"j"), 0x6402), 0x0802);
-    let k = send(case_of(b"k"), 0x4450);
-    send(k, 0x444F);
 }
 
 fn show_item(b: &[u8], n: usize) {
@@ -204,10 +165,22 @@ fn items() {
     show_item(&b, 2);
 }
 
+// A case that shows nothing but its answers.
+fn answers(name: &[u8], words: &[u16]) {
+    case_of(name, words);
+}
+
 pub(crate) fn run() {
-    blocks();
-    singles();
+    energy_window();
+    wrong_check();
+    direction_window();
+    answers(b"d", &[0x0822]);
+    answers(b"e", &[0x2805]);
+    answers(b"f", &[0x0802, 0x2805]);
+    limit();
+    count();
     readings();
-    heads();
+    answers(b"j", &[0x6402, 0x0802]);
+    answers(b"k", &[0x4450, 0x444F]);
     items();
 }

@@ -1,7 +1,7 @@
 // Frames built at a place of a larger buffer, and bytes of a wrong length handed to the desk.
 // Keeps 01 "What the numbers mean", rows 17 and 18: nothing changed, no frame used up.
 use super::print;
-use super::slots;
+use super::shown;
 use bench::Bench;
 use desk::Answer;
 use desk::Desk;
@@ -12,10 +12,8 @@ use frame::Refusal;
 use frame::Wrote;
 
 fn say_refused(why: Refusal) {
-    match why {
-        Refusal::NotForty => print::text(b" refused 17"),
-        Refusal::NoRoom => print::text(b" refused 18"),
-    }
+    print::text(b" refused ");
+    print::small(frame::number(why));
 }
 
 // What a buffer of 44 bytes AAh holds after a frame at place 2.
@@ -44,11 +42,11 @@ fn say_place(at: usize, wrote: Wrote, same: bool, next: u8) {
     print::text(b"\n");
 }
 
-// The next frame to be built at a place of a buffer of 44 bytes AAh.
-fn place(bench: Bench, at: usize, shown: bool) -> Bench {
+// The next frame to be built at a place of a buffer of 44 bytes AAh; at place 2 the buffer is shown.
+fn place(bench: Bench, at: usize) -> Bench {
     let blank = [0xAAu8; 44];
     let mut buf = [0xAAu8; 44];
-    let sent = bench::build(bench, &mut buf, at);
+    let sent = slots::build(bench, &mut buf, at);
     let wrote = sent.wrote;
     say_place(
         at,
@@ -56,21 +54,23 @@ fn place(bench: Bench, at: usize, shown: bool) -> Bench {
         check::same(&buf, &blank),
         sent.bench.rig.sending.next,
     );
-    if shown {
+    if at == 2 {
         show_around(&buf);
     }
     sent.bench
 }
 
+// Room to spare, an exact fit, a byte too few, the end, past it, the largest place; and once more with room.
+const PLACES: [usize; 7] = [2, 4, 5, 44, 45, usize::MAX, 2];
+
 fn rooms() {
     print::text(b"a buffer of 44 bytes AAh\n");
-    let first = place(bench::fresh(), 2, true);
-    let exact = place(first, 4, false);
-    let short = place(exact, 5, false);
-    let end = place(short, 44, false);
-    let past = place(end, 45, false);
-    let largest = place(past, usize::MAX, false);
-    place(largest, 2, true);
+    let mut b = bench::fresh();
+    let mut i: usize = 0;
+    while i < 7 {
+        b = place(b, PLACES[i]);
+        i += 1;
+    }
 }
 
 // The index of a whole frame.
@@ -95,7 +95,7 @@ fn say_handed(name: &[u8], s: &[u8], answer: Answer, ground: Shown) {
         Answer::Refused(why) => say_refused(why),
     }
     print::text(b", Ground");
-    slots::say_byte(ground);
+    shown::say_byte(ground);
     print::text(b"\n");
 }
 
@@ -107,17 +107,40 @@ fn hand(desk: Desk, name: &[u8], s: &[u8]) -> Desk {
     handed.desk
 }
 
+// The first bytes of a slice handed to the desk, where there are so many.
+fn hand_first(desk: Desk, name: &[u8], s: &[u8], n: usize) -> Desk {
+    if n <= s.len() {
+        return hand(desk, name, &s[0..n]);
+    }
+    desk
+}
+
+// So many bytes, all alike but the one at 39.
+fn hand_alike(desk: Desk, name: &[u8], byte: u8, last: u8, n: usize) -> Desk {
+    let mut bytes = [byte; 41];
+    bytes[39] = last;
+    hand_first(desk, name, &bytes, n)
+}
+
+fn handed(desk: Desk, k: u32) -> Desk {
+    match k {
+        0 => hand_alike(desk, b"39 bytes 00h", 0x00, 0x00, 39),
+        1 => hand_alike(desk, b"41 bytes 00h", 0x00, 0x00, 41),
+        2 => hand_alike(desk, b"40 bytes 00h", 0x00, 0x00, 40),
+        3 => hand_alike(desk, b"40 bytes C0h", 0xC0, 0xC0, 40),
+        4 => hand_alike(desk, b"40 bytes FFh", 0xFF, 0xFF, 40),
+        _ => hand_alike(desk, b"39 bytes C0h and one C1h", 0xC0, 0xC1, 40),
+    }
+}
+
 fn lengths() {
     print::text(b"bytes handed to the desk\n");
-    let zeros = [0u8; 41];
-    let short = hand(desk::fresh(), b"39 bytes 00h", &zeros[..39]);
-    let long = hand(short, b"41 bytes 00h", &zeros);
-    let whole = hand(long, b"40 bytes 00h", &zeros[..40]);
-    let c0 = hand(whole, b"40 bytes C0h", &[0xC0u8; 40]);
-    let ff = hand(c0, b"40 bytes FFh", &[0xFFu8; 40]);
-    let mut nearly = [0xC0u8; 40];
-    nearly[39] = 0xC1;
-    hand(ff, b"39 bytes C0h and one C1h", &nearly);
+    let mut desk = desk::fresh();
+    let mut k: u32 = 0;
+    while k < 6 {
+        desk = handed(desk, k);
+        k += 1;
+    }
 }
 
 pub(crate) fn run() {

@@ -65,3 +65,18 @@ pub(crate) fn part(s: &[u8], from: usize, end: usize) {
         }
     }
 }
+
+// The word of a number, from 0, of those that blanks part.
+pub(crate) fn nth(s: &[u8], n: u32) {
+    let mut word: u32 = 0;
+    let mut i: usize = 0;
+    while i < s.len() {
+        let c = [s[i]];
+        i += 1;
+        if c[0] == b' ' {
+            word = std::num::wrapping_add_u32(word, 1);
+        } else if word == n {
+            text(&c);
+        }
+    }
+}

@@ -1,0 +1,31 @@
+-- `vectors::places::rooms` is safe and ends: the measure is the places that are left.
+-- Assumes nothing.
+use Prim.Native.Nat.{_-_}
+use native.Mathlib.Omega.{arith}
+use borrow.Author.Needs.{needs}
+use Rattle.vectors.proofs.places.rooms.Statement.{statement}
+use Rattle.vectors.proofs.places.rooms.Tie as tie
+
+abbrev Inv-loop : tie.InvT-loop
+Inv-loop b₀ i₀ b i = Unit
+
+abbrev μ-loop : tie.MeasureT-loop
+μ-loop b₀ i₀ b i = 7 - i
+
+pub rooms-spec : {M : Type 1} → statement M
+rooms-spec =
+    tie.close
+    (tie.spec
+    Inv-loop
+    μ-loop
+    (λ c. search needs)
+    (λ c κs. search needs)
+    (λ c κs. search needs)
+    (λ c. search needs)
+    (λ c. search needs)
+    (λ c. search needs)
+    (λ c κs. search needs)
+    (λ c. search needs)
+    (λ c. search needs)
+    (λ c. search needs)
+    (λ c. search needs))

@@ -1,0 +1,97 @@
+// What the desk shows of an item, as text: unknown, or a value with its age; and the items' names.
+// Keeps 01 "The 40-byte frame": the items, in the order of their rows.
+use super::print;
+use desk::Desk;
+use desk::Shown;
+use frame::Item;
+
+fn say_age(age: u32) {
+    print::text(b" age ");
+    print::number(age as u64);
+}
+
+pub(crate) fn say_byte(shown: Shown) {
+    match shown {
+        Shown::Unknown => print::text(b" unknown"),
+        Shown::Known(v, age) => {
+            print::text(b" ");
+            print::byte((v % 256) as u8);
+            say_age(age.0);
+        }
+    }
+}
+
+pub(crate) fn say_long(shown: Shown) {
+    match shown {
+        Shown::Unknown => print::text(b" unknown"),
+        Shown::Known(v, age) => {
+            print::text(b" ");
+            print::long(v);
+            say_age(age.0);
+        }
+    }
+}
+
+// The item of a row.
+fn item_of(row: u32) -> Item {
+    match row {
+        0 => Item::Parallel,
+        1 => Item::Multiplexer1,
+        2 => Item::Multiplexer2,
+        3 => Item::Multiplexer3,
+        4 => Item::ErrorCode,
+        5 => Item::DirectionStop,
+        6 => Item::DirectionStart,
+        7 => Item::EnergyStop,
+        8 => Item::EnergyStart,
+        9 => Item::LastInvalidCode,
+        10 => Item::IelEnable,
+        11 => Item::ReducedCounter,
+        12 => Item::Bias,
+        13 => Item::Relay,
+        14 => Item::Ground,
+        15 => Item::Stepping,
+        16 => Item::Limit,
+        17 => Item::Level,
+        18 => Item::Flap1,
+        19 => Item::Flap2,
+        20 => Item::Flap3,
+        21 => Item::IelClock,
+        22 => Item::LastCheck,
+        23 => Item::InvalidCount,
+        24 => Item::HeadMask,
+        25 => Item::LongCounter,
+        _ => Item::FreeTime,
+    }
+}
+
+// Its name.
+fn say_name(row: u32) {
+    print::nth(
+        b"Parallel Multiplexer1 Multiplexer2 Multiplexer3 ErrorCode DirectionStop DirectionStart EnergyStop EnergyStart \
+        LastInvalidCode IelEnable ReducedCounter Bias Relay Ground Stepping Limit Level Flap1 Flap2 Flap3 IelClock LastCheck \
+        InvalidCount HeadMask LongCounter FreeTime",
+        row,
+    );
+}
+
+// An item's name, and what the desk shows of it.
+pub(crate) fn say(desk: Desk, row: u32) {
+    say_name(row);
+    let shown = desk::look(desk, item_of(row));
+    if row < 25 {
+        say_byte(shown);
+    } else {
+        say_long(shown);
+    }
+}
+
+// All items, a line each.
+pub(crate) fn all(desk: Desk) {
+    let mut row: u32 = 0;
+    while row < 27 {
+        say(desk, row);
+        print::text(b"\n");
+        row += 1;
+    }
+}
