@@ -81,12 +81,12 @@ fn say_item(desk: Desk, row: u32) {
 
 fn say_items(desk: Desk, shows: Shows) {
     match shows {
-        Shows::Check => say_item(desk, 22),
-        Shows::Counter => say_item(desk, 25),
+        Shows::Check => say_item(desk, shown::LAST_CHECK),
+        Shows::Counter => say_item(desk, shown::LONG_COUNTER),
         Shows::Three => {
-            say_item(desk, 9);
-            say_item(desk, 14);
-            say_item(desk, 25);
+            say_item(desk, shown::LAST_INVALID_CODE);
+            say_item(desk, shown::GROUND);
+            say_item(desk, shown::LONG_COUNTER);
         }
     }
     print::text(b"\n");

@@ -92,9 +92,9 @@ fn one_round() -> Bench {
 // The two items that differ most after a power cut: one comes in every frame, the other stays until frame 21.
 fn after_the_cut(bench: Bench) {
     let desk = bench.desk;
-    shown::say(desk, 9);
+    shown::say(desk, shown::LAST_INVALID_CODE);
     print::text(b"\n");
-    shown::say(desk, 22);
+    shown::say(desk, shown::LAST_CHECK);
     print::text(b"\n");
 }
 

@@ -5,6 +5,15 @@ use desk::Desk;
 use desk::Shown;
 use frame::Item;
 
+// Rows that the runs name.
+pub(crate) const LAST_INVALID_CODE: u32 = 9;
+
+pub(crate) const GROUND: u32 = 14;
+
+pub(crate) const LAST_CHECK: u32 = 22;
+
+pub(crate) const LONG_COUNTER: u32 = 25;
+
 fn say_age(age: u32) {
     print::text(b" age ");
     print::number(age as u64);
@@ -79,7 +88,7 @@ fn say_name(row: u32) {
 pub(crate) fn say(desk: Desk, row: u32) {
     say_name(row);
     let shown = desk::look(desk, item_of(row));
-    if row < 25 {
+    if row < LONG_COUNTER {
         say_byte(shown);
     } else {
         say_long(shown);
