@@ -265,7 +265,7 @@ const TABLE: [u8; 256] = [
 ];
 
 // The check after one byte more.
-fn next(c: u8, b: u8) -> u8
+pub fn next(c: u8, b: u8) -> u8
     ensures { λ r. ⌜ r ≡ crcByte c b ⌝ }
 {
     let x = c ^ b;

@@ -4,13 +4,13 @@ use mathlib.Core.Path.{_≡_, refl, _∙_, sym, ap, subst}
 use mathlib.Core.List.{List, [], _∷_, _++_}
 use Prim.Native.Nat.{ℕ, _+_, _<_}
 use native.Mathlib.Omega.{arith}
-use lib.ListN.{length, getD, getD-replicate}
+use lib.ListN.{length, getD-replicate}
 use borrow.Author.Tests.{lt-ltb}
 use Rattle.desk.specs.declared.Shown.{Shown}
 use Rattle.desk.specs.declared.Desk.{Desk}
 use Rattle.desk.specs.declared.Received.{Received}
 use Rattle.desk.specs.declared.Half.{Half}
-use Rattle.desk.specs.Desk.{cellsAfter, readingOf, halfAfter, slotOf, missedOf, heardOf, blank, nothing, shows}
+use Rattle.desk.specs.Desk.{latestOf, readingOf, halfAfter, slotOf, missedOf, heardOf, blank, shownBy, nothing, shows}
 use Rattle.rig.specs.declared.Rig.{Rig}
 use Rattle.rig.specs.Words.{takeOf}
 use Rattle.power.specs.Power.{spunOf, setOf}
@@ -22,7 +22,6 @@ use Rattle.laws.proofs.Runs.{run-laws}
 use Rattle.demands.specs.History.{Slot, missed, whole}
 use Rattle.demands.specs.World.{Event, word, spin, set, cut, arrives, lost, lostC0, lostFF, idle, idleC0, idleFF, noRoom, torn, World, proved, start, next, run, fillC0, fillFF}
 use Rattle.demands.proofs.Shown.{brought, shownOf}
-use Rattle.desk.proofs.Cells.{size, at-cell}
 use Rattle.desk.proofs.Laws.{laws as desk-laws}
 use Rattle.demands.proofs.Half.{Good, halfOf, Linked, half-step, reads, linked-built, linked-missed}
 
@@ -59,7 +58,6 @@ pub record Inv (w : World) : Type 0 where
   pub made : Made (w .rig)
   pub linked : Linked (w .rig) (w .past)
   pub half : w .desk .half ≡ halfOf (w .past)
-  pub cells : length (w .desk .cells) ≡ 27
   pub shown : (k : ℕ) → k < 27 → shows (w .desk) k ≡ shownOf k (w .past)
 
 -- the desk that bytes in a slot leave: a built frame is heard, fill is a miss, bytes of another length change nothing
@@ -78,13 +76,12 @@ fill-FF d = ap deskOf (desk-laws .fill-FF d)
 torn-stays : (d : Desk) (f : List ℕ) → (length f ≡ 40 → ⊥) → slotOf d f .desk ≡ d
 torn-stays d f n = ap deskOf (desk-laws .refused d f n)
 
--- the cells of a desk after a slot that shows f k of item k
-slot-step : (f : ℕ → Shown) (d : Desk) (h : List Slot) (s : Slot) → length (d .cells) ≡ 27
+-- what a desk n shows after a slot that by itself shows f k of item k
+slot-step : (f : ℕ → Shown) (d n : Desk) (h : List Slot) (s : Slot) → ((k : ℕ) → k < 27 → shows n k ≡ latestOf (f k) (shows d k))
     → ((k : ℕ) → k < 27 → shows d k ≡ shownOf k h) → ((k : ℕ) → k < 27 → f k ≡ brought k (s ∷ h))
-    → (k : ℕ) → k < 27 → getD (cellsAfter f 27 (d .cells)) k blank .shown ≡ shownOf k (s ∷ h)
+    → (k : ℕ) → k < 27 → shows n k ≡ shownOf k (s ∷ h)
 unfolding shownOf
-slot-step f d h s n e b k l =
-    ap (λ c. c .shown) (at-cell f 27 (d .cells) (omega arith) k l) ∙ rw (b k l, e k l)
+slot-step f d n h s a e b k l = a k l ∙ rw (b k l, e k l)
 
 -- an event that is no slot: the next frame and what is latched stay
 quiet : (w : World) (r : Rig) → Inv w → Made r → r .sending ≡ w .rig .sending → Inv (record { rig = r; desk = w .desk; past = w .past })
@@ -92,7 +89,6 @@ quiet w r i g n =
     record {
       made = g;
       half = i .half;
-      cells = i .cells;
       shown = i .shown;
       linked = λ j p m r0 q. ap (λ s. s .latch) n ∙ i .linked j p (sym (ap (λ s. s .next) n) ∙ m) r0 q;
     }
@@ -103,7 +99,6 @@ cut-off w i =
     record {
       made = made-more (w .rig) ran.cut (i .made);
       half = i .half;
-      cells = i .cells;
       shown = i .shown;
       linked = λ j p m r0 q. absurd (omega (arith, m));
     }
@@ -116,9 +111,9 @@ heard w i =
       made = made-more (w .rig) ran.frame (i .made);
       linked = linked-built (w .rig) (w .past) g (i .linked);
       half = ap (λ (x : Half). halfAfter x (nextFrame (w .rig))) (i .half) ∙ half-step (w .rig) (w .past) g (i .linked);
-      cells = size (readingOf (w .desk .half) (nextFrame (w .rig))) 27 (w .desk .cells) ∙ i .cells;
       shown =
-          slot-step (readingOf (w .desk .half) (nextFrame (w .rig))) (w .desk) (w .past) (whole (w .rig)) (i .cells) (i .shown)
+          slot-step (readingOf (w .desk .half) (nextFrame (w .rig))) (w .desk) (heardOf (w .desk) (nextFrame (w .rig))) (w .past) (whole (w .rig))
+          (desk-laws .at-frame (w .desk) (nextFrame (w .rig))) (i .shown)
           (λ k l. ap (λ (x : Half). readingOf x (nextFrame (w .rig)) k) (i .half) ∙ reads (w .rig) (w .past) g (i .linked) k l);
     }
 
@@ -130,8 +125,7 @@ unheard w r i m =
       made = m;
       linked = linked-missed r (w .past);
       half = refl;
-      cells = size nothing 27 (w .desk .cells) ∙ i .cells;
-      shown = slot-step nothing (w .desk) (w .past) missed (i .cells) (i .shown) (λ k l. refl);
+      shown = slot-step nothing (w .desk) (missedOf (w .desk)) (w .past) missed (desk-laws .at-miss (w .desk)) (i .shown) (λ k l. refl);
     }
 
 -- the same invariant, of the desk as a slot leaves it
@@ -171,9 +165,8 @@ begin =
     record {
       made = record { by = []; is = refl };
       half = refl;
-      cells = refl;
       linked = λ j p m r0 q. absurd (omega (arith, m));
-      shown = λ k l. ap (λ c. c .shown) (getD-replicate 27 k blank blank l);
+      shown = λ k l. ap shownBy (getD-replicate 27 k blank blank l);
     }
 
 pub after : (es : List Event) → Inv (run proved (start proved) es)

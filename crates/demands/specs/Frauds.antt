@@ -13,7 +13,7 @@ use Rattle.desk.specs.declared.Shown.{Shown}
 use Rattle.desk.specs.declared.Shown.the-variants.{Unknown, Known}
 use Rattle.desk.specs.declared.Answer.the-variants.{Heard}
 use Rattle.desk.specs.declared.Received.{Received}
-use Rattle.desk.specs.Desk.{bornAt, freshDesk, slotOf, missedOf, shows}
+use Rattle.desk.specs.Desk.{bornAt, shownBy, freshDesk, slotOf, missedOf, shows}
 use Rattle.judge.specs.declared.Refusal.{Refusal}
 use Rattle.rig.specs.declared.Rig.{Rig}
 use Rattle.rig.specs.declared.Answer.the-variants as answer
@@ -72,7 +72,7 @@ hoarder = deskOf freshDesk (λ d f. pick (isKnown (shows d 12)) (aged d) (slotOf
 -- is every item known?
 abbrev pub allKnown : List Cell → Bool
 allKnown [] = true
-allKnown (c ∷ cs) = pick (isKnown (c .shown)) (allKnown cs) false
+allKnown (c ∷ cs) = pick (isKnown (shownBy c)) (allKnown cs) false
 
 -- 4. a desk that reads the first round, until every item is known, and then only pretends
 abbrev pub pretender : Outfit

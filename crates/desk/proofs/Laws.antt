@@ -3,7 +3,6 @@
 use mathlib.Core.Path.{_≡_, refl, sym, ap, _∙_}
 use mathlib.Core.List.{List}
 use Prim.Native.Nat.{ℕ}
-use native.Mathlib.Omega.{arith}
 use lib.ListN.{length, replicate}
 use borrow.Author.Tests.{ne-eqb}
 use Rattle.frame.specs.declared.Arrived.the-variants.{Whole}
@@ -16,7 +15,8 @@ use Rattle.desk.specs.declared.Answer.the-variants.{Heard, Missed, Refus
 use Rattle.desk.specs.declared.Desk.{Desk}
 use Rattle.desk.specs.Desk.{readingOf, nothing, missedOf, heardOf, slotOf}
 use Rattle.desk.specs.Laws.{answered, Laws}
-use Rattle.desk.proofs.Cells.{at-cell}
+use Rattle.desk.proofs.Cells.{at-slot, one-way}
+use Rattle.desk.proofs.Readings.{reading-fits}
 use Rattle.desk.proofs.Unread.{heard-same}
 
 module _ (d : Desk) where
@@ -47,6 +47,8 @@ laws =
       fill-FF = fill-FF;
       built = λ d h i l. heard-whole d (frameOf h i l) _ _ (whole h i l);
       unread = unread;
-      at-miss = λ d k n h. ap (λ c. c .shown) (at-cell nothing 27 (d .cells) (omega arith) k h);
-      at-frame = λ d f k n h. ap (λ c. c .shown) (at-cell (readingOf (d .half) f) 27 (d .cells) (omega arith) k h);
+      at-miss = λ d k h. at-slot nothing (d .cells) k h tt;
+      at-frame = λ d f k h. at-slot (readingOf (d .half) f) (d .cells) k h (reading-fits (d .half) f k h);
+      held-miss = λ d k h. one-way nothing (d .cells) k h tt;
+      held-frame = λ d f k h. one-way (readingOf (d .half) f) (d .cells) k h (reading-fits (d .half) f k h);
     }

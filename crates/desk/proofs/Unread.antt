@@ -3,7 +3,7 @@
 use mathlib.Core.Path.{_≡_, refl, sym, ap, _∙_}
 use mathlib.Core.Bool.{Bool, true, false}
 use mathlib.Core.List.{List}
-use Prim.Native.Nat.{ℕ, zero, suc, _≤_, _<_}
+use Prim.Native.Nat.{ℕ, _≤_, _<_}
 use native.Mathlib.Decide.{ℕ-discrete}
 use native.Mathlib.Omega.{arith}
 use lib.Dec.{eqb, ltb}
@@ -16,17 +16,11 @@ use Rattle.frame.proofs.Tells.{pick-same}
 use Rattle.frame.proofs.Unread.{index-same, read-same, spread-same}
 use Rattle.desk.specs.declared.Half.{Half}
 use Rattle.desk.specs.declared.Half.the-variants.{Nothing}
-use Rattle.desk.specs.declared.Shown.{Shown}
 use Rattle.desk.specs.declared.Shown.the-variants.{Unknown}
-use Rattle.desk.specs.declared.Cell.{Cell}
 use Rattle.desk.specs.declared.Desk.{Desk}
-use Rattle.desk.specs.Desk.{bornAt, grownOf, keptAt, plainOf, partly, readingOf, halfAfter, cellsAfter, heardOf}
+use Rattle.desk.specs.Desk.{bornAt, grownOf, keptAt, plainOf, partly, readingOf, halfAfter, heardOf}
+use Rattle.desk.proofs.Cells.{cells-same}
 use Rattle.desk.proofs.Readings.{plain-is, spread-is}
-
-cells-same : (p q : ℕ → Shown) (n : ℕ) (cs : List Cell) → ((k : ℕ) → k < n → p k ≡ q k) → cellsAfter p n cs ≡ cellsAfter q n cs
-unfolding cellsAfter
-cells-same p q zero cs e = refl
-cells-same p q (suc n) cs e = rw (cells-same p q n cs (λ k l. e k (omega arith)), e n (omega arith))
 
 -- a frame after which a number is half read is one of that number's
 partly-spreads : (i : ℕ) → partly i ≡ true → spreads i ≡ true
@@ -64,4 +58,4 @@ module _ (f g : List ℕ) (a : Alike f g) (half : Half) where
 
 pub heard-same : (d : Desk) (f g : List ℕ) → Alike f g → heardOf d f ≡ heardOf d g
 heard-same d f g a =
-    rw (cells-same (readingOf (d .half) f) (readingOf (d .half) g) 27 (d .cells) (reading-same f g a (d .half)), half-same f g a (d .half))
+    rw (cells-same (readingOf (d .half) f) (readingOf (d .half) g) (d .cells) (reading-same f g a (d .half)), half-same f g a (d .half))

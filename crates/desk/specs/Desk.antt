@@ -1,12 +1,12 @@
 -- What the desk does at a slot, and what it then shows (01, "The 40-byte frame", the paragraph "The desk takes slots").
 -- The rows of the items, what a frame carries and what arrived are those of `frame`. Assumes nothing.
 use mathlib.Core.Bool.{Bool, true}
-use mathlib.Core.List.{List}
+use mathlib.Core.List.{List, [], _∷_}
 use Prim.Native.Nat.{ℕ, zero, suc, _+_, _*_, _%_}
 use lib.Dec.{eqb, ltb}
-use lib.ListN.{getD, set, replicate}
+use lib.ListN.{getD, replicate}
 use Rattle.base.specs.Pick.{pick}
-use Rattle.base.specs.Counts.{frames, slotOlder}
+use Rattle.base.specs.Counts.{frames, ceiling, slotOlder}
 use Rattle.frame.specs.declared.Arrived.{Arrived}
 use Rattle.frame.specs.declared.Arrived.the-variants as arrived
 use Rattle.frame.specs.declared.Reading.{Reading}
@@ -50,6 +50,10 @@ abbrev pub plainOf : Reading → Shown
 plainOf reading.Nothing = Unknown
 plainOf (reading.Value v) = Known v (frames 0)
 
+-- a spread number, complete at the frame of index `last`, its first frame then a slots old
+abbrev pub spreadOf : Half → ℕ → ℕ → ℕ → ℕ → Shown
+spreadOf half i b last a = pick (eqb i last) (bornAt a (grownOf half i b)) Unknown
+
 -- what a whole frame by itself shows of the item in row k: a plain item at age 0; a spread number, where its last byte comes, at the age
 -- of its first frame
 unfoldable pub readingOf : Half → List ℕ → ℕ → Shown
@@ -73,13 +77,31 @@ halfAt half i b = pick (partly i) (keptAt i (grownOf half i b)) Nothing
 unfoldable pub halfAfter : Half → List ℕ → Half
 halfAfter half f = halfAt half (indexOf f) (getD f 39 0)
 
+-- an unknown item: no age passes 65,535, so this one stands for none
 abbrev pub blank : Cell
-blank = record { shown = Unknown }
+blank = record { value = 0; age = frames 65536 }
 
--- the cells after a slot that by itself shows f k of the item in row k
-unfoldable pub cellsAfter : (ℕ → Shown) → ℕ → List Cell → List Cell
-cellsAfter f zero cs = cs
-cellsAfter f (suc n) cs = set (cellsAfter f n cs) n (record { shown = latestOf (f n) (getD cs n blank .shown) })
+-- what is shown, as a cell holds it
+abbrev pub cellOf : Shown → Cell
+cellOf Unknown = blank
+cellOf (Known v a) = record { value = v; age = a }
+
+-- what a cell shows
+abbrev pub shownBy : Cell → Shown
+shownBy c = pick (ltb ceiling (c .age .0)) Unknown (Known (c .value) (c .age))
+
+-- a cell after a slot that by itself shows s of its item
+abbrev pub cellAfter : Shown → Cell → Cell
+cellAfter s c = cellOf (latestOf s (shownBy c))
+
+-- g k, g (k + 1), .. : n in all
+abbrev pub cellsFrom : (ℕ → Cell) → ℕ → ℕ → List Cell
+cellsFrom g k zero = []
+cellsFrom g k (suc n) = g k ∷ cellsFrom g (suc k) n
+
+-- the 27 cells after a slot that by itself shows f k of the item in row k
+unfoldable pub cellsAfter : (ℕ → Shown) → List Cell → List Cell
+cellsAfter f cs = cellsFrom (λ k. cellAfter (f k) (getD cs k blank)) 0 27
 
 -- a fresh desk
 abbrev pub freshDesk : Desk
@@ -87,18 +109,18 @@ freshDesk = record { cells = replicate 27 blank; half = Nothing }
 
 -- what a desk shows of the item in row k
 abbrev pub shows : Desk → ℕ → Shown
-shows d k = getD (d .cells) k blank .shown
+shows d k = shownBy (getD (d .cells) k blank)
 
 -- a miss shows nothing, and discards what is half read
 abbrev pub nothing : ℕ → Shown
 nothing k = Unknown
 
 abbrev pub missedOf : Desk → Desk
-missedOf d = record { cells = cellsAfter nothing 27 (d .cells); half = Nothing }
+missedOf d = record { cells = cellsAfter nothing (d .cells); half = Nothing }
 
 -- a whole frame
 abbrev pub heardOf : Desk → List ℕ → Desk
-heardOf d f = record { cells = cellsAfter (readingOf (d .half) f) 27 (d .cells); half = halfAfter (d .half) f }
+heardOf d f = record { cells = cellsAfter (readingOf (d .half) f) (d .cells); half = halfAfter (d .half) f }
 
 -- by what arrived: a whole frame is heard, fill is a miss; where the bytes are refused (17) nothing changes and no slot passes
 abbrev pub tookOf : Desk → List ℕ → Arrived → Received

@@ -3,7 +3,7 @@
 use mathlib.Core.Path.{_≡_}
 use mathlib.Core.List.{List}
 use Prim.Native.Nat.{ℕ, _<_}
-use lib.ListN.{length, replicate}
+use lib.ListN.{length, getD, replicate}
 use Rattle.frame.specs.declared.Held.{Held}
 use Rattle.frame.specs.declared.Arrived.the-variants.{Whole}
 use Rattle.frame.specs.Items.{numbered}
@@ -14,7 +14,7 @@ use Rattle.desk.specs.declared.Desk.{Desk}
 use Rattle.desk.specs.declared.Answer.{Answer}
 use Rattle.desk.specs.declared.Answer.the-variants.{Heard, Missed, Refused}
 use Rattle.desk.specs.declared.Received.{Received}
-use Rattle.desk.specs.Desk.{agedOf, latestOf, readingOf, shows, missedOf, heardOf, slotOf}
+use Rattle.desk.specs.Desk.{agedOf, latestOf, readingOf, blank, cellOf, shows, missedOf, heardOf, slotOf}
 
 abbrev pub answered : Answer → Desk → Received
 answered a d = record { answer = a; desk = d }
@@ -29,7 +29,9 @@ pub record Laws : Type 0 where
   pub built : (d : Desk) (h : Held) (i l : ℕ) → slotOf d (frameOf h i l) ≡ answered Heard (heardOf d (frameOf h i l))
   -- of two whole frames that differ in unread bits alone the desk makes the same
   pub unread : (d : Desk) (f g : List ℕ) (i b j c : ℕ) → Alike f g → arrivedOf f ≡ Whole i b → arrivedOf g ≡ Whole j c → slotOf d f ≡ slotOf d g
-  -- item by item, of a desk with its 27 cells: a miss makes it one slot older; a whole frame shows what it brings, else the same
-  pub at-miss : (d : Desk) (k : ℕ) → length (d .cells) ≡ 27 → k < 27 → shows (missedOf d) k ≡ agedOf (shows d k)
-  pub at-frame : (d : Desk) (f : List ℕ) (k : ℕ) → length (d .cells) ≡ 27 → k < 27
-      → shows (heardOf d f) k ≡ latestOf (readingOf (d .half) f k) (shows d k)
+  -- item by item: a miss makes it one slot older; a whole frame shows what it brings, else the same
+  pub at-miss : (d : Desk) (k : ℕ) → k < 27 → shows (missedOf d) k ≡ agedOf (shows d k)
+  pub at-frame : (d : Desk) (f : List ℕ) (k : ℕ) → k < 27 → shows (heardOf d f) k ≡ latestOf (readingOf (d .half) f k) (shows d k)
+  -- a cell after a slot is the one that holds what it shows: an unknown item is held in one way
+  pub held-miss : (d : Desk) (k : ℕ) → k < 27 → getD (missedOf d .cells) k blank ≡ cellOf (shows (missedOf d) k)
+  pub held-frame : (d : Desk) (f : List ℕ) (k : ℕ) → k < 27 → getD (heardOf d f .cells) k blank ≡ cellOf (shows (heardOf d f) k)

@@ -2,13 +2,11 @@
 // Keeps 01 "The 40-byte frame", its paragraph on the desk; a frame not of 40 bytes is 17, and no slot passes.
 ghost use mathlib.Core.Path.{_≡_};
 ghost use Prim.Native.Nat.{_<_};
-ghost use lib.Dec.{eqb};
 ghost use lib.ListN.{length, getD};
-ghost use Rattle.base.specs.Pick.{pick};
 ghost use Rattle.frame.specs.Items.{rowOf};
-ghost use Rattle.frame.specs.Read.{indexOf};
+ghost use Rattle.frame.specs.Read.{indexOf, readOf};
 ghost use Rattle.desk.specs.declared.Shown.the-variants.{Unknown};
-ghost use Rattle.desk.specs.Desk.{agedOf, latestOf, grownOf, bornAt, plainOf, readingOf, keptAt, halfAt, cellsAfter, nothing, freshDesk, shows, missedOf, heardOf, slotOf};
+ghost use Rattle.desk.specs.Desk.{blank, agedOf, latestOf, grownOf, bornAt, plainOf, spreadOf, readingOf, keptAt, halfAt, shownBy, cellOf, cellAfter, cellsAfter, nothing, freshDesk, shows, missedOf, heardOf, slotOf};
 use base::Frames;
 use frame::Arrived;
 use frame::Item;
@@ -21,8 +19,10 @@ pub enum Shown {
     Known(u32, Frames),
 }
 
+// What is held of an item: its value and its age. No age passes 65,535: a greater one stands for unknown.
 pub struct Cell {
-    pub shown: Shown,
+    value: u32,
+    age: Frames,
 }
 
 // What is half read of a number spread over frames: the index that must come next, and the bytes so far.
@@ -32,8 +32,8 @@ pub enum Half {
 }
 
 pub struct Desk {
-    pub cells: [Cell; 27],
-    pub half: Half,
+    cells: [Cell; 27],
+    half: Half,
 }
 
 // What became of the bytes in a slot.
@@ -51,9 +51,7 @@ pub struct Received {
 pub fn fresh() -> Desk
     ensures { λ r. ⌜ r ≡ freshDesk ⌝ }
 {
-    let blank = Cell {
-        shown: Shown::Unknown,
-    };
+    let blank = cell_of(Shown::Unknown);
     let cells = [blank; 27];
     Desk {
         cells: cells,
@@ -67,8 +65,41 @@ pub fn look(desk: Desk, item: Item) -> Shown
 {
     let k = frame::row_of(item);
     let cells = desk.cells;
-    let cell = cells[k];
-    cell.shown
+    shown_by(cell_at(cells, k))
+}
+
+// The cell in row k.
+fn cell_at(cells: [Cell; 27], k: usize) -> Cell
+    ensures { λ r. ⌜ r ≡ getD cells k blank ⌝ }
+{
+    if k < 27 {
+        return cells[k];
+    }
+    cell_of(Shown::Unknown)
+}
+
+// What a cell shows.
+fn shown_by(c: Cell) -> Shown
+    ensures { λ r. ⌜ r ≡ shownBy c ⌝ }
+{
+    let a = c.age;
+    if 65535 < a.0 {
+        return Shown::Unknown;
+    }
+    Shown::Known(c.value, a)
+}
+
+// What is shown, as a cell: an unknown item is held in one way.
+fn cell_of(s: Shown) -> Cell
+    ensures { λ r. ⌜ r ≡ cellOf s ⌝ }
+{
+    match s {
+        Shown::Unknown => Cell {
+            value: 0,
+            age: Frames(65536),
+        },
+        Shown::Known(v, a) => Cell { value: v, age: a },
+    }
 }
 
 // One slot later.
@@ -165,7 +196,7 @@ fn plain(r: Reading) -> Shown
 
 // A spread number, complete at the frame of index `last`, its first frame then `age` slots old.
 fn spread(half: Half, i: u8, b: u8, last: u8, age: u32) -> Shown
-    ensures { λ r. ⌜ r ≡ pick (eqb i last) (bornAt age (grownOf half i b)) Unknown ⌝ }
+    ensures { λ r. ⌜ r ≡ spreadOf half i b last age ⌝ }
 {
     if i == last {
         return born(grown(half, i, b), age);
@@ -173,50 +204,103 @@ fn spread(half: Half, i: u8, b: u8, last: u8, age: u32) -> Shown
     Shown::Unknown
 }
 
-// What a whole frame of index i with byte 39 b by itself shows of the item in row k.
-fn reading(frame: &[u8], half: Half, i: u8, b: u8, k: usize) -> Shown
-    requires { ⌜ (length (now frame) ≡ 40) × (i ≡ indexOf (now frame)) × (b ≡ getD (now frame) 39 0) × (k < 27) ⌝ }
-    ensures { λ r. ⌜ r ≡ readingOf half (now (frame .entry)) k ⌝ }
+// What is held after a slot that by itself shows `new`.
+fn next(new: Shown, old: Cell) -> Cell
+    ensures { λ r. ⌜ r ≡ cellAfter new old ⌝ }
 {
-    if k < 25 {
-        return plain(frame::read(frame, k));
-    }
-    if k == 25 {
-        return spread(half, i, b, 3, 3);
-    }
-    spread(half, i, b, 28, 1)
+    cell_of(latest(new, shown_by(old)))
 }
 
+// Row k after a slot that shows nothing of its item.
+fn older(old: [Cell; 27], k: usize) -> Cell
+    ensures { λ r. ⌜ r ≡ cellAfter Unknown (getD old k blank) ⌝ }
+{
+    next(Shown::Unknown, cell_at(old, k))
+}
+
+// Row k of a plain item after a whole frame.
+fn plain_cell(old: [Cell; 27], k: usize, frame: &[u8]) -> Cell
+    ensures { λ r. ⌜ r ≡ cellAfter (plainOf (readOf (now (frame .entry)) k)) (getD old k blank) ⌝ }
+{
+    next(plain(frame::read(frame, k)), cell_at(old, k))
+}
+
+// Row k of a spread number after a whole frame.
+fn spread_cell(old: [Cell; 27], k: usize, half: Half, i: u8, b: u8, last: u8, age: u32) -> Cell
+    ensures { λ r. ⌜ r ≡ cellAfter (spreadOf half i b last age) (getD old k blank) ⌝ }
+{
+    next(spread(half, i, b, last, age), cell_at(old, k))
+}
+
+// The cells after a whole frame, row by row: each is written once, and no table is built.
 fn heard_cells(old: [Cell; 27], frame: &[u8], half: Half, i: u8, b: u8) -> [Cell; 27]
     requires { ⌜ (length (now frame) ≡ 40) × (i ≡ indexOf (now frame)) × (b ≡ getD (now frame) 39 0) ⌝ }
-    ensures { λ r. ⌜ r ≡ cellsAfter (readingOf half (now (frame .entry))) 27 old ⌝ }
+    ensures { λ r. ⌜ r ≡ cellsAfter (readingOf half (now (frame .entry))) old ⌝ }
 {
-    let mut cells = old;
-    let mut k = 0;
-    while k < 27 {
-        let c = old[k];
-        let s = c.shown;
-        let new = reading(frame, half, i, b, k);
-        cells[k] = Cell {
-            shown: latest(new, s),
-        };
-        k += 1;
-    }
-    cells
+    [
+        plain_cell(old, 0, frame),
+        plain_cell(old, 1, frame),
+        plain_cell(old, 2, frame),
+        plain_cell(old, 3, frame),
+        plain_cell(old, 4, frame),
+        plain_cell(old, 5, frame),
+        plain_cell(old, 6, frame),
+        plain_cell(old, 7, frame),
+        plain_cell(old, 8, frame),
+        plain_cell(old, 9, frame),
+        plain_cell(old, 10, frame),
+        plain_cell(old, 11, frame),
+        plain_cell(old, 12, frame),
+        plain_cell(old, 13, frame),
+        plain_cell(old, 14, frame),
+        plain_cell(old, 15, frame),
+        plain_cell(old, 16, frame),
+        plain_cell(old, 17, frame),
+        plain_cell(old, 18, frame),
+        plain_cell(old, 19, frame),
+        plain_cell(old, 20, frame),
+        plain_cell(old, 21, frame),
+        plain_cell(old, 22, frame),
+        plain_cell(old, 23, frame),
+        plain_cell(old, 24, frame),
+        spread_cell(old, 25, half, i, b, 3, 3),
+        spread_cell(old, 26, half, i, b, 28, 1),
+    ]
 }
 
+// The cells after a miss.
 fn missed_cells(old: [Cell; 27]) -> [Cell; 27]
-    ensures { λ r. ⌜ r ≡ cellsAfter nothing 27 old ⌝ }
+    ensures { λ r. ⌜ r ≡ cellsAfter nothing old ⌝ }
 {
-    let mut cells = old;
-    let mut k = 0;
-    while k < 27 {
-        let c = old[k];
-        let s = c.shown;
-        cells[k] = Cell { shown: aged(s) };
-        k += 1;
-    }
-    cells
+    [
+        older(old, 0),
+        older(old, 1),
+        older(old, 2),
+        older(old, 3),
+        older(old, 4),
+        older(old, 5),
+        older(old, 6),
+        older(old, 7),
+        older(old, 8),
+        older(old, 9),
+        older(old, 10),
+        older(old, 11),
+        older(old, 12),
+        older(old, 13),
+        older(old, 14),
+        older(old, 15),
+        older(old, 16),
+        older(old, 17),
+        older(old, 18),
+        older(old, 19),
+        older(old, 20),
+        older(old, 21),
+        older(old, 22),
+        older(old, 23),
+        older(old, 24),
+        older(old, 25),
+        older(old, 26),
+    ]
 }
 
 // A slot marked missed.

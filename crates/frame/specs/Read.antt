@@ -10,6 +10,7 @@ use Rattle.frame.specs.declared.Arrived.{Arrived}
 use Rattle.frame.specs.declared.Arrived.the-variants.{Whole, FillC0, FillFF, Refused}
 use Rattle.frame.specs.declared.Reading.{Reading}
 use Rattle.frame.specs.declared.Reading.the-variants.{Nothing, Value}
+use Rattle.frame.specs.declared.Spot.{Spot}
 use Rattle.frame.specs.Items.{numbered}
 
 -- Where an item stands. Its word is bytes `byte` and `byte + 1`, high first; the item is that word divided by `div`, modulo `rem`.
@@ -78,6 +79,13 @@ phaseOf k = getD (column (λ r. r .phase) rows) k 0
 
 abbrev pub bornOf : ℕ → ℕ
 bornOf k = getD (column (λ r. r .born) rows) k 0
+
+-- what the code keeps of a row
+abbrev pub spot : ℕ → ℕ → ℕ → ℕ → ℕ → Spot
+spot b d m p q = record { byte = b; div = d; rem = m; period = p; phase = q }
+
+abbrev pub spotOf : ℕ → Spot
+spotOf k = spot (byteOf k) (divOf k) (remOf k) (periodOf k) (phaseOf k)
 
 -- byte 0 (1F)
 abbrev pub indexOf : List ℕ → ℕ

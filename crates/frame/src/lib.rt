@@ -4,7 +4,7 @@ ghost use mathlib.Core.Path.{_≡_};
 ghost use Prim.Native.Nat.{_<_};
 ghost use lib.ListN.{length};
 ghost use Rattle.frame.specs.Items.{rowOf, numberOf};
-ghost use Rattle.frame.specs.Read.{fieldOf, readOf, allAre, arrivedOf};
+ghost use Rattle.frame.specs.Read.{spot, spotOf, fieldOf, readOf, allAre, arrivedOf};
 
 // What a frame shows: the present value of each item, in the order of the rows. A switch is 0 or 1.
 pub struct Held {
@@ -92,157 +92,15 @@ pub enum Reading {
     Value(u32),
 }
 
-// Where each item stands: its word's first byte, what the word is divided by and the remainder then taken;
-// and the frames that bring it (index % PERIOD == PHASE; the last one of a number that is spread).
-const BYTE: [usize; 27] = [
-    0,
-    5,
-    5,
-    5,
-    6,
-    8,
-    8,
-    9,
-    9,
-    15,
-    18,
-    19,
-    35,
-    1,
-    37,
-    36,
-    36,
-    36,
-    38,
-    38,
-    38,
-    38,
-    38,
-    38,
-    38,
-    38,
-    38,
-];
-
-const DIV: [u32; 27] = [
-    0x40,
-    0x01,
-    0x08,
-    0x40,
-    0x10,
-    0x80,
-    0x04,
-    0x20,
-    0x01,
-    0x01,
-    0x80,
-    0x01,
-    0x01,
-    0x40,
-    0x01,
-    0x10,
-    0x10,
-    0x10,
-    0x10,
-    0x20,
-    0x40,
-    0x80,
-    0x01,
-    0x01,
-    0x10,
-    0x01,
-    0x01,
-];
-
-const REM: [u32; 27] = [
-    2,
-    2,
-    2,
-    2,
-    16,
-    32,
-    32,
-    32,
-    32,
-    256,
-    2,
-    64,
-    256,
-    2,
-    256,
-    2,
-    16,
-    16,
-    2,
-    2,
-    2,
-    2,
-    256,
-    256,
-    8,
-    256,
-    256,
-];
-
-const PERIOD: [u8; 27] = [
-    1,
-    1,
-    1,
-    1,
-    1,
-    1,
-    1,
-    1,
-    1,
-    1,
-    1,
-    1,
-    1,
-    1,
-    8,
-    4,
-    4,
-    4,
-    32,
-    32,
-    32,
-    32,
-    32,
-    32,
-    32,
-    32,
-    32,
-];
-
-const PHASE: [u8; 27] = [
-    0,
-    0,
-    0,
-    0,
-    0,
-    0,
-    0,
-    0,
-    0,
-    0,
-    0,
-    0,
-    0,
-    0,
-    0,
-    0,
-    2,
-    3,
-    12,
-    12,
-    12,
-    12,
-    21,
-    22,
-    31,
-    3,
-    28,
-];
+// Where a plain item stands: its word's first byte, what the word is divided by and the remainder then taken;
+// and the frames that bring it (index % period == phase).
+struct Spot {
+    byte: usize,
+    div: u32,
+    rem: u32,
+    period: u8,
+    phase: u8,
+}
 
 // The number of a refusal (01, "What the numbers mean").
 pub fn number(refusal: Refusal) -> u8
@@ -294,14 +152,62 @@ fn wide(x: u8) -> u32
     x as u32
 }
 
+// One row of the table below.
+fn stands(byte: usize, div: u32, rem: u32, period: u8, phase: u8) -> Spot
+    ensures { λ r. ⌜ r ≡ spot byte div rem period phase ⌝ }
+{
+    Spot {
+        byte: byte,
+        div: div,
+        rem: rem,
+        period: period,
+        phase: phase,
+    }
+}
+
+// The rows of the plain items: byte, div, rem, period, phase. A `match` and no array, which would be built anew at each use.
+fn spot_of(row: usize) -> Spot
+    requires { ⌜ row < 25 ⌝ }
+    ensures { λ r. ⌜ r ≡ spotOf row ⌝ }
+{
+    match row {
+        0 => stands(0, 0x40, 2, 1, 0),
+        1 => stands(5, 0x01, 2, 1, 0),
+        2 => stands(5, 0x08, 2, 1, 0),
+        3 => stands(5, 0x40, 2, 1, 0),
+        4 => stands(6, 0x10, 16, 1, 0),
+        5 => stands(8, 0x80, 32, 1, 0),
+        6 => stands(8, 0x04, 32, 1, 0),
+        7 => stands(9, 0x20, 32, 1, 0),
+        8 => stands(9, 0x01, 32, 1, 0),
+        9 => stands(15, 0x01, 256, 1, 0),
+        10 => stands(18, 0x80, 2, 1, 0),
+        11 => stands(19, 0x01, 64, 1, 0),
+        12 => stands(35, 0x01, 256, 1, 0),
+        13 => stands(1, 0x40, 2, 1, 0),
+        14 => stands(37, 0x01, 256, 8, 0),
+        15 => stands(36, 0x10, 2, 4, 0),
+        16 => stands(36, 0x10, 16, 4, 2),
+        17 => stands(36, 0x10, 16, 4, 3),
+        18 => stands(38, 0x10, 2, 32, 12),
+        19 => stands(38, 0x20, 2, 32, 12),
+        20 => stands(38, 0x40, 2, 32, 12),
+        21 => stands(38, 0x80, 2, 32, 12),
+        22 => stands(38, 0x01, 256, 32, 21),
+        23 => stands(38, 0x01, 256, 32, 22),
+        _ => stands(38, 0x10, 8, 32, 31),
+    }
+}
+
 // The number that stands in the item's word.
 fn field(frame: &[u8], row: usize) -> u32
-    requires { ⌜ (length (now frame) ≡ 40) × (row < 27) ⌝ }
+    requires { ⌜ (length (now frame) ≡ 40) × (row < 25) ⌝ }
     ensures { λ r. ⌜ r ≡ fieldOf (now (frame .entry)) row ⌝ }
 {
-    let at = BYTE[row];
+    let p = spot_of(row);
+    let at = p.byte;
     let word = wide(frame[at]) * 256 + wide(frame[at + 1]);
-    word / DIV[row] % REM[row]
+    word / p.div % p.rem
 }
 
 // What 40 bytes tell of a plain item, one of the first 25.
@@ -315,7 +221,8 @@ pub fn read(frame: &[u8], row: usize) -> Reading
         return Reading::Nothing;
     }
     let i = frame[0] % 32;
-    if i % PERIOD[row] != PHASE[row] {
+    let p = spot_of(row);
+    if i % p.period != p.phase {
         return Reading::Nothing;
     }
     Reading::Value(field(frame, row))

@@ -3,13 +3,13 @@
 use Prim.Native.Nat.{ℕ, zero, suc, _+_, _%_, _<_, _≤_}
 use mathlib.Core.Path.{_≡_, refl, ap, sym, _∙_}
 use mathlib.Core.Bool.{Bool, true, false, true≢false}
-use mathlib.Core.List.{List, [], _∷_}
+use mathlib.Core.List.{List, [], _∷_, _++_}
 use native.Mathlib.Nat.{add-zero}
 use native.Mathlib.Omega.{arith}
-use lib.ListN.{length, take, set, replicate, length-set}
+use lib.Dec.{eqb}
+use lib.ListN.{length}
 use Rattle.base.specs.Pick.{pick}
-use Rattle.crc.specs.Crc.{crcOf}
-use Rattle.crc.specs.Laws.{Bytes}
+use Rattle.crc.specs.Crc.{crcByte, crcFrom, crcOf}
 use Rattle.crc.proofs.Laws.{laws}
 use Rattle.judge.specs.declared.Verdict.the-variants.{Apply, Deny}
 use Rattle.judge.specs.Refusals.{numberOf}
@@ -21,48 +21,35 @@ use Rattle.rig.specs.declared.Reply.{Reply}
 use Rattle.rig.specs.declared.Reply.the-variants.{Plain, Swallowed, Dropped}
 use Rattle.rig.specs.declared.Judgement.{Judgement}
 use Rattle.rig.specs.declared.Taken.{Taken}
-use Rattle.rig.specs.Words.{highOf, nothingPending, newBlock, oneMore, settledOf, refusedOf, checkOf}
+use Rattle.rig.specs.Words.{highOf, nothingPending, newBlock, oneMore, settledOf, refusedOf}
 use Rattle.rig.specs.Replies.{refusalsOf}
 use Rattle.laws.specs.Replies.{booked, bookedDrop, After}
+use Rattle.laws.specs.Blocks.{holding}
 use Rattle.laws.specs.Runs.{named, latestError, latestCode}
 use Rattle.laws.proofs.Tests.{by-test}
 use Rattle.laws.proofs.Commands.{CoreFits}
 use Rattle.laws.proofs.Words.{Fresh, judged, begun, Case, idle, kept, closed, swallowed, again}
 use Rattle.laws.proofs.Replies.{number-is}
+use Rattle.laws.proofs.Blocks.{more}
 
--- lists of bytes
-zeros : (n : ℕ) → Bytes (replicate n 0)
-zeros zero = tt
-zeros (suc n) = (omega arith, zeros n)
-
-taken : (n : ℕ) (s : List ℕ) → Bytes s → Bytes (take n s)
-taken zero s h = tt
-taken (suc n) [] h = tt
-taken (suc n) (b ∷ s) h = (h .0, taken n s (h .1))
-
-stored : (s : List ℕ) (i b : ℕ) → Bytes s → b < 0x100 → Bytes (set s i b)
-stored [] i b h k = tt
-stored (x ∷ s) zero b h k = (k, h .1)
-stored (x ∷ s) (suc i) b h k = (h .0, stored s i b (h .1) k)
-
--- the check of stored bytes is a byte
-pub check-small : (p : Pending) → Bytes (p .bytes) → checkOf p < 0x100
-unfolding crcOf
-check-small p h = laws .fits 0 (take (p .n) (p .bytes)) (omega arith) (taken (p .n) (p .bytes) h)
+-- the check goes on as a byte
+check-small : (c b : ℕ) → c < 0x100 → b < 0x100 → crcByte c b < 0x100
+check-small c b h k = unfold crcFrom in laws .fits c (b ∷ []) h (k, tt)
 
 pub record PendingFits (p : Pending) : Type 0 where
   pub n : p .n ≤ 79
   pub got : p .got ≤ p .n
   pub head : p .head < 0x100
-  pub room : length (p .bytes) ≡ 79
-  pub bytes : Bytes (p .bytes)
+  pub first : p .first < 0x100
+  pub second : p .second < 0x100
+  pub check : p .check < 0x100
   pub idle : p .waiting ≡ false → p ≡ nothingPending
 
 pub nothing-fits : PendingFits nothingPending
-nothing-fits = record { n = omega arith; got = omega arith; head = omega arith; room = refl; bytes = zeros 79; idle = λ e. refl }
+nothing-fits = record { n = omega arith; got = omega arith; head = omega arith; first = omega arith; second = omega arith; check = omega arith; idle = λ e. refl }
 
 new-fits : (high n : ℕ) → high < 0x100 → n ≤ 79 → PendingFits (newBlock high n)
-new-fits high n h k = record { n = k; got = omega arith; head = h; room = refl; bytes = zeros 79; idle = λ e. absurd (true≢false e) }
+new-fits high n h k = record { n = k; got = omega arith; head = h; first = omega arith; second = omega arith; check = omega arith; idle = λ e. absurd (true≢false e) }
 
 more-fits : (p : Pending) (low : ℕ) → p .waiting ≡ true → p .got < p .n → low < 0x100 → PendingFits p → PendingFits (oneMore p low)
 more-fits p low w k l h =
@@ -70,8 +57,9 @@ more-fits p low w k l h =
       n = h .n;
       got = omega arith;
       head = h .head;
-      room = simp length-set (h .room);
-      bytes = stored (p .bytes) (p .got) low (h .bytes) l;
+      first = by-test (_< 0x100) (eqb (p .got) 0) (λ e. l) (λ e. h .first);
+      second = by-test (_< 0x100) (eqb (p .got) 1) (λ e. l) (λ e. h .second);
+      check = check-small (p .check) low (h .check) l;
       idle = λ e. absurd (true≢false (sym w ∙ e));
     }
 
@@ -84,14 +72,34 @@ fresh-fits (judged (Apply c) k) a h = (k (h .0), h .1)
 fresh-fits (judged (Deny why) k) a h = h
 fresh-fits {high = high} {low = low} (begun k) a h = (h .0, new-fits high low a k)
 
-pub word-fits : {r : Rig} {high low : ℕ} {b : Bool} {t : Taken} → Case r high low b t → high < 0x100 → low < 0x100 → Fits r → Fits (t .rig)
+pub word-fits : {r : Rig} {high low : ℕ} {b k : Bool} {t : Taken} → Case r high low b k t → high < 0x100 → low < 0x100 → Fits r → Fits (t .rig)
 unfolding settledOf refusedOf
 word-fits (idle e j f) a l h = fresh-fits f a h
 word-fits {r} {low = low} (kept e k) a l h = (h .0, more-fits (r .pending) low e k l (h .1))
-word-fits (closed e (Apply c) k) a l h = (k (h .0) (h .1 .bytes), nothing-fits)
+word-fits (closed e (Apply c) k) a l h = (k (h .0) (h .1 .first), nothing-fits)
 word-fits (closed e (Deny why) k) a l h = (h .0, nothing-fits)
 word-fits (swallowed e) a l h = (h .0, nothing-fits)
 word-fits (again e j f) a l h = fresh-fits f a (h .0, nothing-fits)
+
+-- a block that waits is its head and the bytes that were kept
+abbrev pub Holds : Pending → List ℕ → Type 0
+Holds p s = p .waiting ≡ true → p ≡ holding (p .head) (p .n) s
+
+fresh-holds : {r : Rig} {high low : ℕ} {j : Judgement} → Fresh r high low j → r .pending .waiting ≡ false → Holds (j .rig .pending) []
+unfolding settledOf refusedOf crcOf crcFrom
+fresh-holds (judged (Apply c) k) e w = absurd (true≢false (sym w ∙ e))
+fresh-holds (judged (Deny why) k) e w = absurd (true≢false (sym w ∙ e))
+fresh-holds (begun k) e w = refl
+
+pub word-holds : {r : Rig} {high low : ℕ} {b k : Bool} {t : Taken} (s : List ℕ) → Case r high low b k t → Holds (r .pending) s
+    → Holds (t .rig .pending) (pick k (s ++ (low ∷ [])) [])
+unfolding settledOf refusedOf
+word-holds s (idle e j f) h = fresh-holds f e
+word-holds {r} {low = low} s (kept e k) h = λ w. ap (λ (p : Pending). oneMore p low) (h e) ∙ more (r .pending .head) (r .pending .n) s low
+word-holds s (closed e (Apply c) k) h = λ w. absurd (true≢false (sym w))
+word-holds s (closed e (Deny why) k) h = λ w. absurd (true≢false (sym w))
+word-holds s (swallowed e) h = λ w. absurd (true≢false (sym w))
+word-holds s (again e j f) h = fresh-holds f refl
 
 -- The faults f after n refusals, of which the latest had that number and byte.
 pub record Told (f : Faults) (n number byte : ℕ) : Type 0 where

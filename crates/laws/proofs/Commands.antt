@@ -1,17 +1,14 @@
 -- One walk of the command table: every verdict keeps the bounds of the core. The supply's part is the supply's own law.
 -- Assumes nothing.
 use Prim.Native.Nat.{ℕ, _%_, _<_, _≤_}
-use mathlib.Core.List.{List, [], _∷_}
 use native.Mathlib.Omega.{arith}
 use lib.Dec.{eqb}
-use lib.ListN.{getD}
 use Rattle.supply.specs.Rules.{relayed, targeted, limited, switched}
 use Rattle.supply.specs.Laws.{Safe, Quiet, SafeChange, QuietChange}
 use Rattle.supply.specs.declared.Supply.{Supply}
 use Rattle.supply.specs.declared.Change.{Change}
 use Rattle.supply.specs.declared.Change.the-variants.{Done, Refused}
 use Rattle.supply.proofs.Kept.{relayed-safe, targeted-safe, limited-safe, switched-safe, relayed-quiet, targeted-quiet, limited-quiet, switched-quiet}
-use Rattle.crc.specs.Laws.{Bytes}
 use Rattle.crc.specs.declared.Judged.{Judged}
 use Rattle.crc.specs.declared.Judged.the-variants.{Right, Wrong}
 use Rattle.judge.specs.declared.Window.{Window}
@@ -86,12 +83,7 @@ block-keeps c code n x y h b =
     by-test Keeps (eqb code 0x23) (λ e. counted-keeps n (directionSet c x y) (record { safe = h .safe; quiet = h .quiet; mask = h .mask; mux = h .mux; direction = w; energy = h .energy })) (λ e.
     by-test Keeps (eqb code 0x24) (λ e. counted-keeps n (energySet c x y) (record { safe = h .safe; quiet = h .quiet; mask = h .mask; mux = h .mux; direction = h .direction; energy = w })) (λ e. tt)))
 
--- the first of some bytes is a byte
-first-byte : (s : List ℕ) → Bytes s → getD s 0 0 < 0x100
-first-byte [] h = omega arith
-first-byte (b ∷ s) h = h .0
-
-pub verdict-keeps : (j : Judged) (c : Core) (p : Pending) → CoreFits c → Bytes (p .bytes) → Keeps (verdictOf j c p)
+pub verdict-keeps : (j : Judged) (c : Core) (p : Pending) → CoreFits c → p .first < 0x100 → Keeps (verdictOf j c p)
 unfolding verdictOf
-verdict-keeps Right c p h b = block-keeps c (codeOf (p .head)) (p .n) (getD (p .bytes) 0 0) (getD (p .bytes) 1 0) h (first-byte (p .bytes) b)
+verdict-keeps Right c p h b = block-keeps c (codeOf (p .head)) (p .n) (p .first) (p .second) h b
 verdict-keeps Wrong c p h b = tt

@@ -4,6 +4,7 @@ pub mod Commands
 pub mod Words
 pub mod Replies
 pub mod Rows
+pub mod Blocks
 pub mod Bounds
 pub mod Runs
 pub mod One

@@ -19,7 +19,7 @@ use Rattle.rig.specs.declared.Answer.the-variants.{Accepted, Waiting, Refused}
 use Rattle.rig.specs.declared.Reply.{Reply}
 use Rattle.rig.specs.declared.Reply.the-variants.{Plain, Swallowed, Dropped}
 use Rattle.rig.specs.declared.Taken.{Taken}
-use Rattle.rig.specs.Words.{highOf, lowOf, kindOf, checkOf, settledOf, refusedOf, freshOf, afterDrop, dropped, droppedOf, pendingOf, takeOf}
+use Rattle.rig.specs.Words.{highOf, lowOf, kindOf, settledOf, refusedOf, freshOf, afterDrop, dropped, droppedOf, pendingOf, takeOf}
 use Rattle.rig.specs.Replies.{refusalsOf}
 use Rattle.laws.specs.Replies.{After, Apart, judgedAfresh, afterwards, Never, ReplyLaws}
 use Rattle.laws.proofs.Words.{takes, judged, begun, Case, idle, kept, closed, swallowed, again, case}
@@ -31,9 +31,9 @@ alike r c f p k = record { panel = refl; sending = refl; edbs = refl }
 
 -- what the reply's kind lets move, what no word moves, and the last check
 abbrev Moved : Rig → ℕ → Bool → Taken → Type 0
-Moved r w b t = After r w (t .rig) (t .reply) × Apart r (t .rig) × (t .rig .check ≡ pick b (checkOf (r .pending)) (r .check))
+Moved r w b t = After r w (t .rig) (t .reply) × Apart r (t .rig) × (t .rig .check ≡ pick b (r .pending .check) (r .check))
 
-moved : (w : ℕ) {r : Rig} {b : Bool} {t : Taken} → Case r (highOf w) (lowOf w) b t → Moved r w b t
+moved : (w : ℕ) {r : Rig} {b k : Bool} {t : Taken} → Case r (highOf w) (lowOf w) b k t → Moved r w b t
 unfolding settledOf refusedOf
 moved w (idle e j (judged (Apply c) h)) = ((refl, e), alike _ _ _ _ _, refl)
 moved w (idle e j (judged (Deny why) h)) = ((record { core = refl; pending = e }, rw e refl), alike _ _ _ _ _, refl)

@@ -25,9 +25,9 @@ use Rattle.rig.specs.declared.Pending.{Pending}
 use Rattle.rig.specs.declared.Rig.{Rig}
 use Rattle.rig.specs.declared.Answer.the-variants.{Waiting}
 use Rattle.rig.specs.declared.Reply.the-variants.{Plain, Swallowed}
-use Rattle.rig.specs.Words.{highOf, lowOf, kindOf, codeOf, keeps, closes, withPending, newBlock, oneMore, checkOf, dropped, plain, settledOf, headOf, freshOf, verdictOf, closedOf, droppedOf, pendingOf, takeOf}
+use Rattle.rig.specs.Words.{highOf, lowOf, kindOf, codeOf, keeps, closes, withPending, newBlock, oneMore, dropped, plain, settledOf, headOf, freshOf, verdictOf, closedOf, droppedOf, pendingOf, takeOf}
 use Rattle.laws.specs.Replies.{isEnd, closing}
-use Rattle.laws.specs.Rows.{single, Idle, ExactlyOne, SupplyRow, SettingRow, IelWhen, MaskWhen, ModeWhen, serial, parallel, other, Unlisted, ClosedWhen, wrongCheck, unknown, wrongCount20, wrongCount23, wrongCount24, multiplexer, direction, energy, RowLaws}
+use Rattle.laws.specs.Rows.{single, Idle, ExactlyOne, SupplyRow, SettingRow, IelWhen, MaskWhen, ModeWhen, serial, parallel, other, Unlisted, PendingWhen, wrongCheck, unknown, wrongCount20, wrongCount23, wrongCount24, multiplexer, direction, energy, RowLaws}
 use Rattle.laws.proofs.Tests.{by-test, and-left, and-right}
 use Rattle.laws.proofs.Words.{takes}
 
@@ -162,12 +162,12 @@ closed-is r w k =
     let e = is-end (kindOf (highOf w)) (and-left (isEnd (kindOf (highOf w))) (closes (r .pending) (highOf w)) q) in
     takes r w p e ∙ rw (and-right (isEnd (kindOf (highOf w))) (closes (r .pending) (highOf w)) q)
 
-closed-here : (c : Core) (p : Pending) (received : ℕ) → ClosedWhen c p received (verdictOf (judgeOf (checkOf p) received) c p)
+closed-here : (c : Core) (p : Pending) (received : ℕ) → PendingWhen c p received (verdictOf (judgeOf (p .check) received) c p)
 unfolding verdictOf blockOf countedOf
 closed-here c p received =
     let code = codeOf (p .head) in
-    let Here = ClosedWhen c p received in
-    split (eqb received (checkOf p)) (λ e. let a = eqb-true received (checkOf p) e in simp e (
+    let Here = PendingWhen c p received in
+    split (eqb received (p .check)) (λ e. let a = eqb-true received (p .check) e in simp e (
     by-test Here (eqb code 0x20) (λ f. let b = eqb-true code 0x20 f in
     by-test Here (eqb (p .n) 2) (λ g. multiplexer a b (eqb-true (p .n) 2 g)) (λ g. wrongCount20 a b (eqb-false (p .n) 2 g))) (λ f.
     by-test Here (eqb code 0x23) (λ g. let b = eqb-true code 0x23 g in
@@ -175,9 +175,9 @@ closed-here c p received =
     by-test Here (eqb code 0x24) (λ h. let b = eqb-true code 0x24 h in
     by-test Here (eqb (p .n) 2) (λ g. energy a b (eqb-true (p .n) 2 g)) (λ g. wrongCount24 a b (eqb-false (p .n) 2 g))) (λ h.
     unknown a (eqb-false code 0x20 f) (eqb-false code 0x23 g) (eqb-false code 0x24 h))))))
-    (λ e. simp e (wrongCheck (eqb-false received (checkOf p) e)))
+    (λ e. simp e (wrongCheck (eqb-false received (p .check) e)))
 
-closed-alone : (c : Core) (p : Pending) (received : ℕ) (v : Verdict) → ClosedWhen c p received v → v ≡ verdictOf (judgeOf (checkOf p) received) c p
+closed-alone : (c : Core) (p : Pending) (received : ℕ) (v : Verdict) → PendingWhen c p received v → v ≡ verdictOf (judgeOf (p .check) received) c p
 unfolding verdictOf blockOf countedOf
 closed-alone c p received v (wrongCheck a) = simp (ne-eqb _ _ a)
 closed-alone c p received v (unknown a x y z) = simp (eq-eqb _ _ a, ne-eqb _ _ x, ne-eqb _ _ y, ne-eqb _ _ z)
@@ -206,7 +206,7 @@ row-laws =
       strayEnd = strayEnd;
       kept = kept;
       closed = λ r w k. record {
-        one = verdictOf (judgeOf (checkOf (r .pending)) (lowOf w)) (r .core) (r .pending);
+        one = verdictOf (judgeOf (r .pending .check) (lowOf w)) (r .core) (r .pending);
         is = closed-here (r .core) (r .pending) (lowOf w);
         alone = closed-alone (r .core) (r .pending) (lowOf w);
         then = closed-is r w k;

@@ -2,7 +2,7 @@
 -- Assumes nothing.
 use Prim.Native.Nat.{ℕ, zero, suc, _%_, _<_, _≤_}
 use mathlib.Core.Path.{_≡_, refl, ap, sym, subst, _∙_}
-use mathlib.Core.Bool.{Bool, true, false}
+use mathlib.Core.Bool.{Bool, true, false, true≢false}
 use mathlib.Core.List.{List, [], _∷_}
 use native.Mathlib.Omega.{arith}
 use native.Mathlib.Nat.{not-suc-le-zero}
@@ -16,18 +16,19 @@ use Rattle.frame.specs.Read.{remOf}
 use Rattle.rig.specs.declared.Panel.{Panel}
 use Rattle.power.specs.declared.PanelSetting.{PanelSetting}
 use Rattle.power.specs.declared.PanelSetting.the-variants.{Bias, Ground, FreeTime, Flaps}
+use Rattle.rig.specs.declared.Pending.{Pending}
 use Rattle.rig.specs.declared.Sending.{Sending}
 use Rattle.rig.specs.declared.Rig.{Rig}
-use Rattle.rig.specs.Words.{highOf, lowOf, checkOf, takeOf}
+use Rattle.rig.specs.Words.{highOf, lowOf, takeOf}
 use Rattle.rig.specs.Start.{startRig}
 use Rattle.power.specs.Power.{panelOf, setOf}
 use Rattle.sending.specs.Sending.{heldOf, bit, nextLatch}
 use Rattle.laws.specs.Replies.{closing}
 use Rattle.laws.specs.Runs.{FitsPanel, Event, word, spin, set, cut, frame, ours, after, run, Ledger, blank, entered, ledger, reached, given, Bounds, RunLaws}
-use Rattle.laws.proofs.Tests.{by-test}
+use Rattle.laws.proofs.Tests.{by-test, and-left}
 use Rattle.laws.proofs.Words.{case}
 use Rattle.laws.proofs.Replies.{reply-laws}
-use Rattle.laws.proofs.Bounds.{nothing-fits, check-small, Fits, word-fits, Told, told}
+use Rattle.laws.proofs.Bounds.{nothing-fits, Fits, word-fits, Holds, word-holds, Told, told}
 
 record PanelFits (p : Panel) : Type 0 where
   bias : p .bias < 0x100
@@ -41,6 +42,7 @@ record SendingFits (s : Sending) : Type 0 where
 record Inv (r : Rig) (l : Ledger) : Type 0 where
   told : Told (r .faults) (l .refusals) (l .error) (l .last)
   counter : r .edbs .0 ≡ l .spins % 0x100000000
+  holds : Holds (r .pending) (l .kept)
   check : r .check ≡ l .check
   byte : r .check < 0x100
   fits : Fits r
@@ -52,6 +54,7 @@ start-inv =
     record {
       told = record { count = refl; error = refl; last = refl; small = omega arith; fits = omega arith };
       counter = refl;
+      holds = λ w. absurd (true≢false (sym w));
       check = refl;
       byte = omega arith;
       fits = (
@@ -69,6 +72,11 @@ start-inv =
       sending = record { next = omega arith; latch = omega arith };
     }
 
+-- two choices by one test
+by-same : {x y u v : ℕ} (b : Bool) → (b ≡ true → x ≡ y) → u ≡ v → pick b x u ≡ pick b y v
+by-same true f e = f refl
+by-same false f e = e
+
 word-inv : (r : Rig) (l : Ledger) (w : ℕ) (h : w < 0x10000) → Inv r l → Inv (takeOf r w .rig) (entered ours r (word w h) l)
 word-inv r l w h i =
     let high : highOf w < 0x100 = omega arith in
@@ -80,8 +88,9 @@ word-inv r l w h i =
     record {
       told = told r q w (takeOf r w .reply) (l .refusals) (l .error) (l .last) (reply-laws .moves r w) (p .head) high (i .told);
       counter = rw (apart .edbs) (i .counter);
-      check = check ∙ ap (pick (closing r w) (checkOf (r .pending))) (i .check);
-      byte = rw check (by-test (_< 0x100) (closing r w) (λ e. check-small (r .pending) (p .bytes)) (λ e. i .byte));
+      holds = word-holds (l .kept) (case r w) (i .holds);
+      check = check ∙ by-same (closing r w) (λ e. ap (λ (p : Pending). p .check) (i .holds (and-left (r .pending .waiting) _ e))) (i .check);
+      byte = rw check (by-test (_< 0x100) (closing r w) (λ e. p .check) (λ e. i .byte));
       fits = word-fits (case r w) high low (i .fits);
       panel = rw (apart .panel) (i .panel);
       sending = rw (apart .sending) (i .sending);
@@ -101,6 +110,7 @@ after-inv r l spin i =
     record {
       told = i .told;
       counter = let e = i .counter in omega arith;
+      holds = i .holds;
       check = i .check;
       byte = i .byte;
       fits = (record { safe = stepped-safe (r .core .supply) (c .safe); quiet = stepped-quiet (r .core .supply) (c .quiet); mask = c .mask; mux = c .mux; direction = c .direction; energy = c .energy }, i .fits .1);
@@ -108,14 +118,14 @@ after-inv r l spin i =
       sending = i .sending;
     }
 after-inv r l (set s h) i =
-    record { told = i .told; counter = i .counter; check = i .check; byte = i .byte; fits = i .fits; panel = panel-set (r .panel) s h (i .panel); sending = i .sending }
+    record { told = i .told; counter = i .counter; holds = i .holds; check = i .check; byte = i .byte; fits = i .fits; panel = panel-set (r .panel) s h (i .panel); sending = i .sending }
 after-inv r l cut i = start-inv
 after-inv r l frame i =
     let long : r .edbs .0 < 0x100000000 = let e = i .counter in omega arith in
     let free : r .panel .free < 0x100000000 = let e = i .panel .free in omega arith in
     let at = r .sending .next % 32 in
     let latched : nextLatch r < 0x100000000 = by-test (_< 0x100000000) (eqb at 0) (λ e. long) (λ e. by-test (_< 0x100000000) (eqb at 27) (λ f. free) (λ f. i .sending .latch)) in
-    record { told = i .told; counter = i .counter; check = i .check; byte = i .byte; fits = i .fits; panel = i .panel; sending = record { next = omega arith; latch = latched } }
+    record { told = i .told; counter = i .counter; holds = i .holds; check = i .check; byte = i .byte; fits = i .fits; panel = i .panel; sending = record { next = omega arith; latch = latched } }
 
 run-inv : (r : Rig) (l : Ledger) (es : List Event) → Inv r l → Inv (run ours r es) (ledger ours r l es)
 unfolding run ledger
@@ -147,8 +157,9 @@ bounded i =
       n = p .n;
       got = p .got;
       head = p .head;
-      room = p .room;
-      bytes = p .bytes;
+      first = p .first;
+      second = p .second;
+      soFar = p .check;
       idle = p .idle;
       bias = i .panel .bias;
       ground = i .panel .ground;
@@ -198,6 +209,7 @@ run-laws =
       error = λ es. always es .told .error;
       last = λ es. always es .told .last;
       check = λ es. always es .check;
+      holds = λ es. always es .holds;
       bounds = λ es. bounded (always es);
       widths = λ es. widths (reached ours es) (bounded (always es));
       spin = λ r. record { supply = spin-moves (r .core .supply); edbs = refl; settings = refl; faults = refl; pending = refl; check = refl; panel = refl; sending = refl };

@@ -14,7 +14,7 @@ use Rattle.rig.specs.declared.Answer.the-variants.{Accepted, Waiting, Refused}
 use Rattle.rig.specs.declared.Reply.{Reply}
 use Rattle.rig.specs.declared.Reply.the-variants.{Plain, Swallowed, Dropped}
 use Rattle.rig.specs.declared.Taken.{Taken}
-use Rattle.rig.specs.Words.{dropNumber, highOf, lowOf, kindOf, newBlock, oneMore, closes, checkOf, dropped}
+use Rattle.rig.specs.Words.{dropNumber, highOf, lowOf, kindOf, newBlock, oneMore, keeps, closes, dropped}
 use Rattle.rig.specs.Replies.{refusalsOf}
 
 -- a refusal of that number, booked under that high byte
@@ -67,6 +67,17 @@ isEnd End = true
 abbrev pub closing : Rig → ℕ → Bool
 closing r w = r .pending .waiting && (isEnd (kindOf (highOf w)) && closes (r .pending) (highOf w))
 
+-- is it a data word?
+abbrev pub isData : Kind → Bool
+isData Single = false
+isData Head = false
+isData Data = true
+isData End = false
+
+-- is the word kept: a data word of the pending block's code, with room left?
+abbrev pub keeping : Rig → ℕ → Bool
+keeping r w = r .pending .waiting && (isData (kindOf (highOf w)) && keeps (r .pending) (highOf w))
+
 -- is the word a single or a head, which is judged afresh when it drops a block?
 abbrev pub judgedAfresh : Kind → Bool
 judgedAfresh Single = true
@@ -91,7 +102,7 @@ pub record ReplyLaws (take : Rig → ℕ → Taken) : Type 0 where
   pub moves : (r : Rig) (w : ℕ) → After r w (take r w .rig) (take r w .reply)
   pub apart : (r : Rig) (w : ℕ) → Apart r (take r w .rig)
   -- the last check is set when a block closes, right or wrong, and never otherwise
-  pub check : (r : Rig) (w : ℕ) → take r w .rig .check ≡ pick (closing r w) (checkOf (r .pending)) (r .check)
+  pub check : (r : Rig) (w : ℕ) → take r w .rig .check ≡ pick (closing r w) (r .pending .check) (r .check)
   -- a single or head that meets a pending block: 03h is booked, and then the word does what it does with nothing pending
   pub afresh : (r : Rig) (w : ℕ) → r .pending .waiting ≡ true → judgedAfresh (kindOf (highOf w)) ≡ true
       → take r w ≡ record { rig = take (dropped r) w .rig; reply = afterwards (take (dropped r) w .reply) }

@@ -4,7 +4,6 @@ use mathlib.Core.Path.{_≡_}
 use mathlib.Core.Bool.{true, false}
 use Prim.Native.Nat.{ℕ, _+_, _*_, _/_, _%_, _<_, _≤_}
 use lib.Dec.{eqb}
-use lib.ListN.{getD}
 use Rattle.supply.specs.declared.Supply.{Supply}
 use Rattle.supply.specs.declared.Change.{Change}
 use Rattle.supply.specs.When.{RelayWhen, TargetWhen, LimitWhen, StepWhen}
@@ -19,7 +18,7 @@ use Rattle.rig.specs.declared.Rig.{Rig}
 use Rattle.rig.specs.declared.Answer.the-variants.{Waiting}
 use Rattle.rig.specs.declared.Reply.the-variants.{Plain, Swallowed}
 use Rattle.rig.specs.declared.Taken.{Taken}
-use Rattle.rig.specs.Words.{highOf, lowOf, kindOf, codeOf, keeps, withPending, withCheck, nothingPending, newBlock, oneMore, checkOf, dropped, plain, settledOf}
+use Rattle.rig.specs.Words.{highOf, lowOf, kindOf, codeOf, keeps, withPending, withCheck, nothingPending, newBlock, oneMore, dropped, plain, settledOf}
 use Rattle.laws.specs.Replies.{closing, ReplyLaws}
 
 -- Singles with nothing pending. The word is its code and its low byte: the high byte's top two bits are 0.
@@ -72,25 +71,21 @@ pub record Unlisted (code : ℕ) : Type 0 where
   pub not2B : code ≡ 0x2B → ⊥
   pub not2D : code ≡ 0x2D → ⊥
 
--- the first data byte of a pending block
-abbrev pub first : Pending → ℕ
-first p = getD (p .bytes) 0 0
+-- A closed block of that code, with n data words of which the first two are x and y, whose check was computed and received: 0Bh, 0Fh, 0Eh in this
+-- order, then apply.
+pub data ClosedWhen (c : Core) (code n x y computed received : ℕ) : Verdict → Type 0 where
+  wrongCheck : (received ≡ computed → ⊥) → ClosedWhen c code n x y computed received (Deny WrongCheck)
+  unknown : received ≡ computed → (code ≡ 0x20 → ⊥) → (code ≡ 0x23 → ⊥) → (code ≡ 0x24 → ⊥) → ClosedWhen c code n x y computed received (Deny UnknownCode)
+  wrongCount20 : received ≡ computed → code ≡ 0x20 → (n ≡ 2 → ⊥) → ClosedWhen c code n x y computed received (Deny WrongCount)
+  wrongCount23 : received ≡ computed → code ≡ 0x23 → (n ≡ 2 → ⊥) → ClosedWhen c code n x y computed received (Deny WrongCount)
+  wrongCount24 : received ≡ computed → code ≡ 0x24 → (n ≡ 2 → ⊥) → ClosedWhen c code n x y computed received (Deny WrongCount)
+  multiplexer : received ≡ computed → code ≡ 0x20 → n ≡ 2 → ClosedWhen c code n x y computed received (Apply (muxSet c x y))
+  direction : received ≡ computed → code ≡ 0x23 → n ≡ 2 → ClosedWhen c code n x y computed received (Apply (directionSet c x y))
+  energy : received ≡ computed → code ≡ 0x24 → n ≡ 2 → ClosedWhen c code n x y computed received (Apply (energySet c x y))
 
--- its second
-abbrev pub second : Pending → ℕ
-second p = getD (p .bytes) 1 0
-
--- a closed block of the pending p, whose end word's low byte is the received check: 0Bh, 0Fh, 0Eh in this order, then apply
-pub data ClosedWhen (c : Core) (p : Pending) (received : ℕ) : Verdict → Type 0 where
-  wrongCheck : (received ≡ checkOf p → ⊥) → ClosedWhen c p received (Deny WrongCheck)
-  unknown : received ≡ checkOf p → (codeOf (p .head) ≡ 0x20 → ⊥) → (codeOf (p .head) ≡ 0x23 → ⊥) → (codeOf (p .head) ≡ 0x24 → ⊥)
-      → ClosedWhen c p received (Deny UnknownCode)
-  wrongCount20 : received ≡ checkOf p → codeOf (p .head) ≡ 0x20 → (p .n ≡ 2 → ⊥) → ClosedWhen c p received (Deny WrongCount)
-  wrongCount23 : received ≡ checkOf p → codeOf (p .head) ≡ 0x23 → (p .n ≡ 2 → ⊥) → ClosedWhen c p received (Deny WrongCount)
-  wrongCount24 : received ≡ checkOf p → codeOf (p .head) ≡ 0x24 → (p .n ≡ 2 → ⊥) → ClosedWhen c p received (Deny WrongCount)
-  multiplexer : received ≡ checkOf p → codeOf (p .head) ≡ 0x20 → p .n ≡ 2 → ClosedWhen c p received (Apply (muxSet c (first p) (second p)))
-  direction : received ≡ checkOf p → codeOf (p .head) ≡ 0x23 → p .n ≡ 2 → ClosedWhen c p received (Apply (directionSet c (first p) (second p)))
-  energy : received ≡ checkOf p → codeOf (p .head) ≡ 0x24 → p .n ≡ 2 → ClosedWhen c p received (Apply (energySet c (first p) (second p)))
+-- the pending block, closed by an end word with this low byte
+abbrev pub PendingWhen : Core → Pending → ℕ → Verdict → Type 0
+PendingWhen c p received = ClosedWhen c (codeOf (p .head)) (p .n) (p .first) (p .second) (p .check) received
 
 -- The table and the two paragraphs before it, of any function that takes words.
 pub record RowLaws (take : Rig → ℕ → Taken) : Type 0 where
@@ -116,8 +111,8 @@ pub record RowLaws (take : Rig → ℕ → Taken) : Type 0 where
       → take r w ≡ record { rig = withPending r (oneMore (r .pending) (lowOf w)); reply = Plain Waiting }
   -- an end word of the same code after exactly n data words closes it, and the block is judged; the last check is the computed one
   pub closed : (r : Rig) (w : ℕ) → closing r w ≡ true
-      → ExactlyOne (ClosedWhen (r .core) (r .pending) (lowOf w))
-      (λ v. take r w ≡ plain (settledOf (withCheck (withPending r nothingPending) (checkOf (r .pending))) (r .pending .head) v))
+      → ExactlyOne (PendingWhen (r .core) (r .pending) (lowOf w))
+      (λ v. take r w ≡ plain (settledOf (withCheck (withPending r nothingPending) (r .pending .check)) (r .pending .head) v))
   -- each other data or end word is swallowed with the block it drops
   pub swallowedData : (r : Rig) (w : ℕ) → r .pending .waiting ≡ true → kindOf (highOf w) ≡ Data → keeps (r .pending) (highOf w) ≡ false
       → take r w ≡ record { rig = dropped r; reply = Swallowed }

@@ -1,13 +1,13 @@
 -- Runs of a rig from the start: any words, spins, settings, power cuts and frames, in any order and number; and what every run keeps.
 -- Keeps 01 "Command words" (the counts and codes), "Spins and power", and the widths of "The 40-byte frame". Assumes nothing.
 use mathlib.Core.Path.{_≡_}
-use mathlib.Core.Bool.{false}
-use mathlib.Core.List.{List, [], _∷_}
+use mathlib.Core.Bool.{true, false}
+use mathlib.Core.List.{List, [], _∷_, _++_}
 use Prim.Native.Nat.{ℕ, _+_, _%_, _<_, _≤_}
 use lib.ListN.{length}
 use Rattle.base.specs.Pick.{pick}
 use Rattle.base.specs.Counts.{spinMore}
-use Rattle.crc.specs.Laws.{Bytes}
+use Rattle.crc.specs.Crc.{crcOf}
 use Rattle.frame.specs.Items.{heldAt}
 use Rattle.frame.specs.Read.{remOf}
 use Rattle.judge.specs.Refusals.{numberOf}
@@ -19,12 +19,13 @@ use Rattle.rig.specs.declared.Answer.the-variants.{Accepted, Waiting, Refused}
 use Rattle.rig.specs.declared.Reply.{Reply}
 use Rattle.rig.specs.declared.Reply.the-variants.{Plain, Swallowed, Dropped}
 use Rattle.rig.specs.declared.Taken.{Taken}
-use Rattle.rig.specs.Words.{dropNumber, highOf, nothingPending, checkOf, takeOf}
+use Rattle.rig.specs.Words.{dropNumber, highOf, lowOf, nothingPending, takeOf}
 use Rattle.rig.specs.Replies.{refusalsOf}
 use Rattle.rig.specs.Start.{startRig}
 use Rattle.power.specs.Power.{spunOf, cutOf, setOf}
 use Rattle.sending.specs.Sending.{heldOf, sent}
-use Rattle.laws.specs.Replies.{closing}
+use Rattle.laws.specs.Replies.{closing, keeping}
+use Rattle.laws.specs.Blocks.{holding}
 
 -- a setting is a byte, a 16-bit number or three switches
 abbrev pub FitsPanel : PanelSetting → Type 0
@@ -68,17 +69,18 @@ run m r [] = r
 run m r (e ∷ es) = run m (after m r e) es
 
 -- What a run has given since the last power cut: how many refusals and how many spins; the number and the named high byte of the latest refusal;
--- the check of the latest closing.
+-- the check of the latest closing; and of the block that waits, the low bytes of the data words that were kept, in order.
 pub record Ledger : Type 0 where
   pub refusals : ℕ
   pub spins : ℕ
   pub error : ℕ
   pub last : ℕ
   pub check : ℕ
+  pub kept : List ℕ
 
 -- nothing given: 0, and FFh for the code
 abbrev pub blank : Ledger
-blank = record { refusals = 0; spins = 0; error = 0x00; last = 0xFF; check = 0x00 }
+blank = record { refusals = 0; spins = 0; error = 0x00; last = 0xFF; check = 0x00; kept = [] }
 
 -- the byte that a refusal names: the head's for a pending or closed block, else the word's own
 abbrev pub named : Rig → ℕ → ℕ
@@ -113,9 +115,10 @@ entered m r (word w h) l =
       spins = l .spins;
       error = latestError (l .error) reply;
       last = latestCode (l .last) r w reply;
-      check = pick (closing r w) (checkOf (r .pending)) (l .check);
+      check = pick (closing r w) (crcOf (l .kept)) (l .check);
+      kept = pick (keeping r w) (l .kept ++ (lowOf w ∷ [])) [];
     }
-entered m r spin l = record { refusals = l .refusals; spins = l .spins + 1; error = l .error; last = l .last; check = l .check }
+entered m r spin l = record { refusals = l .refusals; spins = l .spins + 1; error = l .error; last = l .last; check = l .check; kept = l .kept }
 entered m r (set s h) l = l
 entered m r cut l = blank
 entered m r frame l = l
@@ -156,8 +159,9 @@ pub record Bounds (r : Rig) : Type 0 where
   pub n : r .pending .n ≤ 79
   pub got : r .pending .got ≤ r .pending .n
   pub head : r .pending .head < 0x100
-  pub room : length (r .pending .bytes) ≡ 79
-  pub bytes : Bytes (r .pending .bytes)
+  pub first : r .pending .first < 0x100
+  pub second : r .pending .second < 0x100
+  pub soFar : r .pending .check < 0x100
   -- nothing pending is one value
   pub idle : r .pending .waiting ≡ false → r .pending ≡ nothingPending
   -- the panel, the next frame, the counter
@@ -189,8 +193,11 @@ pub record RunLaws (m : Machine) : Type 0 where
   -- the error code and the last invalid code are those of the latest refusal since the last power cut; 0 and FFh if there was none
   pub error : (es : List Event) → reached m es .faults .error ≡ given m es .error
   pub last : (es : List Event) → reached m es .faults .last ≡ given m es .last
-  -- the last check is that of the latest closing since the last power cut; 0 if there was none
+  -- the last check is that of the bytes of the latest block that closed since the last power cut; 0 if there was none
   pub check : (es : List Event) → reached m es .check ≡ given m es .check
+  -- a block that waits is its head, and the bytes of the data words that were kept since
+  pub holds : (es : List Event) → reached m es .pending .waiting ≡ true
+      → reached m es .pending ≡ holding (reached m es .pending .head) (reached m es .pending .n) (given m es .kept)
   -- every field keeps its bounds
   pub bounds : (es : List Event) → Bounds (reached m es)
   -- what a frame shows of each plain item fits the item's width, so that nothing is cut off

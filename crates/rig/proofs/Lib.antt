@@ -1,2 +1,3 @@
--- Single outcome of the rig's functions.
+-- The ways of a word, and single outcome of the rig's functions.
+pub mod Ways
 pub mod Single

@@ -3,9 +3,8 @@
 use Prim.Native.Nat.{ℕ, _+_, _/_, _%_}
 use mathlib.Core.Bool.{Bool, true, false, _&&_}
 use lib.Dec.{eqb, ltb}
-use lib.ListN.{take, getD, set, replicate}
 use Rattle.base.specs.Pick.{pick}
-use Rattle.crc.specs.Crc.{crcOf}
+use Rattle.crc.specs.Crc.{crcByte}
 use Rattle.crc.specs.Judged.{judgeOf}
 use Rattle.crc.specs.declared.Judged.{Judged}
 use Rattle.crc.specs.declared.Judged.the-variants.{Right, Wrong}
@@ -53,14 +52,24 @@ withCheck r k = record { core = r .core; faults = r .faults; pending = r .pendin
 
 -- nothing pending is one value; a head begins a block of n data words, none of which has come
 abbrev pub nothingPending : Pending
-nothingPending = record { waiting = false; head = 0; n = 0; got = 0; bytes = replicate 79 0 }
+nothingPending = record { waiting = false; head = 0; n = 0; got = 0; first = 0; second = 0; check = 0 }
 
 abbrev pub newBlock : ℕ → ℕ → Pending
-newBlock high n = record { waiting = true; head = high; n = n; got = 0; bytes = replicate 79 0 }
+newBlock high n = record { waiting = true; head = high; n = n; got = 0; first = 0; second = 0; check = 0 }
 
--- the block with one more data word's low byte
+-- the block with one more data word's low byte: the first two are kept, and the check goes on over it. That this is the check of the list of all
+-- that came is a law (laws/specs/Blocks).
 abbrev pub oneMore : Pending → ℕ → Pending
-oneMore p low = record { waiting = p .waiting; head = p .head; n = p .n; got = p .got + 1; bytes = set (p .bytes) (p .got) low }
+oneMore p low =
+    record {
+      waiting = p .waiting;
+      head = p .head;
+      n = p .n;
+      got = p .got + 1;
+      first = pick (eqb (p .got) 0) low (p .first);
+      second = pick (eqb (p .got) 1) low (p .second);
+      check = crcByte (p .check) low;
+    }
 
 -- A refusal sets the error code and the last invalid code, and adds one to the invalid count, which goes from 255 to 0.
 unfoldable pub refusedOf : Rig → ℕ → ℕ → Rig
@@ -95,17 +104,14 @@ closes p high = sameCode p high && eqb (p .got) (p .n)
 
 -- A closed block is judged in this order: check wrong 0Bh; then by its code and n. Closing sets the last check to the computed one, right or wrong;
 -- the last invalid code is the head's.
-abbrev pub checkOf : Pending → ℕ
-checkOf p = crcOf (take (p .n) (p .bytes))
-
 unfoldable pub verdictOf : Judged → Core → Pending → Verdict
-verdictOf Right c p = blockOf c (codeOf (p .head)) (p .n) (getD (p .bytes) 0 0) (getD (p .bytes) 1 0)
+verdictOf Right c p = blockOf c (codeOf (p .head)) (p .n) (p .first) (p .second)
 verdictOf Wrong c p = Deny WrongCheck
 
 unfoldable pub closedOf : Rig → ℕ → Judgement
 closedOf r low =
-    settledOf (withCheck (withPending r nothingPending) (checkOf (r .pending))) (r .pending .head)
-    (verdictOf (judgeOf (checkOf (r .pending)) low) (r .core) (r .pending))
+    settledOf (withCheck (withPending r nothingPending) (r .pending .check)) (r .pending .head)
+    (verdictOf (judgeOf (r .pending .check) low) (r .core) (r .pending))
 
 -- Each other word drops the block, refused 03h under the head's byte. A dropping data or end word is swallowed with it; a dropping single or head is
 -- then judged afresh, so one word can give two answers.

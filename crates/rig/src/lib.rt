@@ -30,13 +30,15 @@ pub struct Faults {
     pub count: u8,
 }
 
-// The block that waits: its head's high byte, how many data words it has and how many came, and their low bytes.
+// The block that waits: its head's high byte, how many data words it has and how many came; of their low bytes the first two, and the check so far.
 pub struct Pending {
     pub waiting: bool,
     pub head: u8,
     pub n: u8,
     pub got: u8,
-    pub bytes: [u8; 79],
+    pub first: u8,
+    pub second: u8,
+    pub check: u8,
 }
 
 // What the instructor sets.
@@ -63,6 +65,14 @@ pub struct Rig {
     pub panel: Panel,
     pub sending: Sending,
     pub edbs: Spins,
+}
+
+// What a word does, by its kind and the block that waits, if one does: it is kept, closes the block, is swallowed with it, or is judged afresh.
+pub enum Way {
+    Keep,
+    Close,
+    Swallow,
+    Afresh,
 }
 
 // What a judged word comes to.
@@ -95,13 +105,14 @@ pub struct Taken {
 fn nothing() -> Pending
     ensures { λ r. ⌜ r ≡ nothingPending ⌝ }
 {
-    let bytes = [0u8; 79];
     Pending {
         waiting: false,
         head: 0,
         n: 0,
         got: 0,
-        bytes,
+        first: 0,
+        second: 0,
+        check: 0,
     }
 }
 

@@ -1,11 +1,11 @@
 -- `desk::fresh` meets its contract: 27 blank cells, nothing half read.
 -- Assumes nothing.
-use mathlib.Core.Path.{refl}
+use borrow.Author.Needs.{needs}
 use Rattle.desk.proofs.fresh.Statement.{statement}
 use Rattle.desk.proofs.fresh.Tie as tie
 
 returns : tie.Need-returns
-returns c = refl
+returns c = rw (c .cell-of .ensures)
 
 pub fresh-spec : {M : Type 1} → statement M
-fresh-spec = tie.close (tie.spec returns)
+fresh-spec = tie.close (tie.spec (λ c κs. search needs) returns)

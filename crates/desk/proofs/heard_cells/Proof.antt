@@ -1,48 +1,86 @@
--- `desk::heard_cells` meets its contract: after k turns the first k cells are those after the slot.
+-- `desk::heard_cells` meets its contract: each cell is the one after what its row shows.
 -- Assumes nothing.
-use Prim.Native.Nat.{ℕ, _≤_, _-_}
-use mathlib.Core.Path.{_≡_, refl, subst}
-use native.Mathlib.Omega.{arith}
-use native.Mathlib.Numerals.{add-one}
-use borrow.Author.Needs.{needs}
+use mathlib.Core.Path.{refl, _∙_}
+use Prim.Native.Nat.{ℕ}
 use denote.Ref.{now}
-use Rattle.desk.specs.Desk.{cellsAfter, readingOf}
+use borrow.Author.Needs.{needs}
+use lib.ListN.{getD}
+use Rattle.desk.specs.declared.Cell.{Cell}
+use Rattle.desk.specs.Desk.{blank, readingOf, cellAfter, cellsAfter}
+use Rattle.desk.proofs.Cells.{row, cells-same}
+use Rattle.desk.proofs.Readings.{codeShows, reading-is}
 use Rattle.desk.proofs.heard_cells.Statement.{statement}
 use Rattle.desk.proofs.heard_cells.Tie as tie
 
-abbrev Inv-loop : tie.InvT-loop
-Inv-loop frame half i b old cells₀ k₀ cells k = (k ≤ 27) × (cells ≡ cellsAfter (readingOf half frame) k old)
+abbrev g : tie.Start → ℕ → Cell
+g s k = let a = s .args in cellAfter (codeShows (a .half) (now (a .frame)) (a .i) (a .b) k) (getD (a .old) k blank)
 
-abbrev μ-loop : tie.MeasureT-loop
-μ-loop frame half i b old cells₀ k₀ cells k = 27 - k
-
-loop-holds : tie.Need-loop-holds Inv-loop μ-loop
+returns : tie.Need-returns
 unfolding cellsAfter
-loop-holds c = (search needs, refl)
-
-loop-again : tie.Need-loop-again Inv-loop μ-loop
-unfolding cellsAfter
-loop-again c = (search needs, rw (add-one, c .before .before .before .before .loop .inv .1, c .latest .ensures, c .before .reading .ensures))
-
-returns : tie.Need-returns Inv-loop μ-loop
 returns c =
-    let e : c .before .loop .k ≡ 27 = omega arith in
-    subst (λ (n : ℕ). c .before .loop .cells ≡ cellsAfter (readingOf (c .before .before .before .args .half) (now (c .before .before .before .args .frame))) n (c .before .before .before .args .t1)) e (c .before .loop .inv .1)
+    let c26 = c .before in
+    let c25 = c26 .before in
+    let c24 = c25 .before in
+    let c23 = c24 .before in
+    let c22 = c23 .before in
+    let c21 = c22 .before in
+    let c20 = c21 .before in
+    let c19 = c20 .before in
+    let c18 = c19 .before in
+    let c17 = c18 .before in
+    let c16 = c17 .before in
+    let c15 = c16 .before in
+    let c14 = c15 .before in
+    let c13 = c14 .before in
+    let c12 = c13 .before in
+    let c11 = c12 .before in
+    let c10 = c11 .before in
+    let c9 = c10 .before in
+    let c8 = c9 .before in
+    let c7 = c8 .before in
+    let c6 = c7 .before in
+    let c5 = c6 .before in
+    let c4 = c5 .before in
+    let c3 = c4 .before in
+    let c2 = c3 .before in
+    let c1 = c2 .before in
+    let s = c1 .before .before in
+    let a = s .args in
+    (row (g s) 0 (c1 .plain-cell .ensures)
+    (row (g s) 1 (c2 .plain-cell2 .ensures)
+    (row (g s) 2 (c3 .plain-cell3 .ensures)
+    (row (g s) 3 (c4 .plain-cell4 .ensures)
+    (row (g s) 4 (c5 .plain-cell5 .ensures)
+    (row (g s) 5 (c6 .plain-cell6 .ensures)
+    (row (g s) 6 (c7 .plain-cell7 .ensures)
+    (row (g s) 7 (c8 .plain-cell8 .ensures)
+    (row (g s) 8 (c9 .plain-cell9 .ensures)
+    (row (g s) 9 (c10 .plain-cell10 .ensures)
+    (row (g s) 10 (c11 .plain-cell11 .ensures)
+    (row (g s) 11 (c12 .plain-cell12 .ensures)
+    (row (g s) 12 (c13 .plain-cell13 .ensures)
+    (row (g s) 13 (c14 .plain-cell14 .ensures)
+    (row (g s) 14 (c15 .plain-cell15 .ensures)
+    (row (g s) 15 (c16 .plain-cell16 .ensures)
+    (row (g s) 16 (c17 .plain-cell17 .ensures)
+    (row (g s) 17 (c18 .plain-cell18 .ensures)
+    (row (g s) 18 (c19 .plain-cell19 .ensures)
+    (row (g s) 19 (c20 .plain-cell20 .ensures)
+    (row (g s) 20 (c21 .plain-cell21 .ensures)
+    (row (g s) 21 (c22 .plain-cell22 .ensures)
+    (row (g s) 22 (c23 .plain-cell23 .ensures)
+    (row (g s) 23 (c24 .plain-cell24 .ensures)
+    (row (g s) 24 (c25 .plain-cell25 .ensures)
+    (row (g s) 25 (c26 .spread-cell .ensures)
+    (row (g s) 26 (c .spread-cell2 .ensures) refl)))))))))))))))))))))))))))
+    ∙ cells-same (codeShows (a .half) (now (a .frame)) (a .i) (a .b)) (readingOf (a .half) (now (a .frame))) (a .old)
+    (reading-is (a .half) (now (a .frame)) (a .i) (a .b) (s .pre .0) (s .pre .1) (s .pre .2))
 
 pub heard-cells-spec : {M : Type 1} → statement M
 heard-cells-spec =
     tie.close
     (tie.spec
-    Inv-loop
-    μ-loop
-    loop-holds
-    (λ c. search needs)
-    (λ c. search needs)
-    (λ c κs. search needs)
-    (λ c κs. search needs)
-    (λ c. search needs)
-    (λ c. search needs)
-    (λ c. search needs)
-    (λ c. search needs)
-    loop-again
+    (λ c κs. search needs) (λ c κs. search needs) (λ c κs. search needs) (λ c κs. search needs) (λ c κs. search needs) (λ c κs. search needs) (λ c κs. search needs) (λ c κs. search needs) (λ c κs. search needs)
+    (λ c κs. search needs) (λ c κs. search needs) (λ c κs. search needs) (λ c κs. search needs) (λ c κs. search needs) (λ c κs. search needs) (λ c κs. search needs) (λ c κs. search needs) (λ c κs. search needs)
+    (λ c κs. search needs) (λ c κs. search needs) (λ c κs. search needs) (λ c κs. search needs) (λ c κs. search needs) (λ c κs. search needs) (λ c κs. search needs) (λ c κs. search needs) (λ c κs. search needs)
     returns)

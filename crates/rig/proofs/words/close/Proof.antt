@@ -7,7 +7,7 @@ use Rattle.rig.proofs.words.close.Tie as tie
 
 returns : tie.Need-returns
 unfolding closedOf
-returns c = simp (c .settle .ensures, c .before .nothing .ensures, c .before .before .verdict .ensures, c .before .before .before .judge-of .ensures, c .before .before .before .before .check-first .ensures)
+returns c = simp (c .settle .ensures, c .before .nothing .ensures, c .before .before .verdict .ensures, c .before .before .before .judge-of .ensures)
 
 pub close-spec : {M : Type 1} → statement M
-close-spec = tie.close (tie.spec (λ c κs. search needs) (λ c κs. search needs) (λ c κs. search needs) (λ c κs. search needs) (λ c κs. search needs) returns)
+close-spec = tie.close (tie.spec (λ c κs. search needs) (λ c κs. search needs) (λ c κs. search needs) (λ c κs. search needs) returns)

@@ -1,0 +1,11 @@
+-- `desk::plain_cell` meets its contract: its callees.
+-- Assumes nothing.
+use borrow.Author.Needs.{needs}
+use Rattle.desk.proofs.plain_cell.Statement.{statement}
+use Rattle.desk.proofs.plain_cell.Tie as tie
+
+returns : tie.Need-returns
+returns c = rw (c .next .ensures, c .before .cell-at .ensures, c .before .before .plain .ensures, c .before .before .before .read .ensures)
+
+pub plain-cell-spec : {M : Type 1} → statement M
+plain-cell-spec = tie.close (tie.spec (λ c κs. search needs) (λ c κs. search needs) (λ c κs. search needs) (λ c κs. search needs) returns)
