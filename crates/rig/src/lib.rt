@@ -43,9 +43,9 @@ pub struct Pending {
 
 // What the instructor sets.
 pub struct Panel {
+    pub free: u16,
     pub bias: u8,
     pub ground: u8,
-    pub free: u16,
     pub flap1: bool,
     pub flap2: bool,
     pub flap3: bool,
@@ -53,18 +53,18 @@ pub struct Panel {
 
 // The index of the next frame, and the number latched for the frames that it is spread over.
 pub struct Sending {
-    pub next: u8,
     pub latch: u32,
+    pub next: u8,
 }
 
 pub struct Rig {
+    pub edbs: Spins,
+    pub sending: Sending,
+    pub panel: Panel,
     pub core: Core,
     pub faults: Faults,
     pub pending: Pending,
     pub check: u8,
-    pub panel: Panel,
-    pub sending: Sending,
-    pub edbs: Spins,
 }
 
 // What a word does, by its kind and the block that waits, if one does: it is kept, closes the block, is swallowed with it, or is judged afresh.
