@@ -12,7 +12,7 @@ use Rattle.base.proofs.Table.{both, both-left, both-right}
 use Rattle.base.specs.Pick.{pick}
 use Rattle.block.specs.declared.Part.{Part}
 use Rattle.block.specs.declared.Part.the-variants.{Sgl0, EPad}
-use Rattle.block.specs.Parts.{rowOf, among}
+use Rattle.block.specs.Parts.{nmRow, bm1Row, among}
 use Rattle.block.specs.Cover.{Stretch, nmHeld, bm1Held, holders}
 use Rattle.block.proofs.Laws.{every-part}
 
@@ -86,8 +86,8 @@ module _ (k : ℕ) where
   bm1-cover h = let e = sorted bm1Held in let r = once (sort bm1Held) 0 2304 tt (omega arith) h in omega (arith, e, r)
 
 -- no part is empty: NM has all of them, and BM1 all but SGL0 and E-PAD
-pub nm-full : (p : Part) → 0 < rowOf p .1
-nm-full p = ltb→lt 0 (rowOf p .1) (every-part (λ (q : Part). ltb 0 (rowOf q .1)) tt p)
+pub nm-full : (p : Part) → 0 < nmRow p .n
+nm-full p = ltb→lt 0 (nmRow p .n) (every-part (λ (q : Part). ltb 0 (nmRow q .n)) tt p)
 
 alike : (x y : Bool) → T (pick x y (not y)) → x ≡ y
 alike true true t = refl
@@ -99,7 +99,7 @@ abbrev lacking : Part → Bool
 lacking p = among p (Sgl0 ∷ EPad ∷ [])
 
 abbrev lacks : Part → Bool
-lacks p = pick (eqb (rowOf p .3) 0) (lacking p) (not (lacking p))
+lacks p = pick (eqb (bm1Row p .n) 0) (lacking p) (not (lacking p))
 
-pub bm1-full : (p : Part) → eqb (rowOf p .3) 0 ≡ lacking p
-bm1-full p = alike (eqb (rowOf p .3) 0) (lacking p) (every-part lacks tt p)
+pub bm1-full : (p : Part) → eqb (bm1Row p .n) 0 ≡ lacking p
+bm1-full p = alike (eqb (bm1Row p .n) 0) (lacking p) (every-part lacks tt p)

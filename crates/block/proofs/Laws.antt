@@ -1,6 +1,6 @@
 -- What the proofs of `locate` and `part_of` stand on: the code's groups say what 01's sentences say, and a part that is located
 -- is not empty and lies in its block. Assumes nothing.
-use mathlib.Core.Path.{_≡_, refl, ap, subst}
+use mathlib.Core.Path.{_≡_, refl, sym, ap, subst, _∙_}
 use mathlib.Core.Bool.{Bool, true, false, _||_}
 use mathlib.Core.List.{List, [], _∷_}
 use Prim.Native.Nat.{ℕ, zero, suc, _+_, _≤_, _<_}
@@ -17,11 +17,14 @@ use Rattle.block.specs.declared.Layout.{Layout}
 use Rattle.block.specs.declared.Layout.the-variants.{Nm, Bm1, Bad}
 use Rattle.block.specs.declared.Part.{Part}
 use Rattle.block.specs.declared.Part.the-variants.{Marker, Index, Descriptor1, Calibration, MSigns, Sgl0, DirectEvents, HSpct, ISpct, Sgl1, Sgl2, Sgl3, IPad, I3dd, Mtrx, Descriptor2, EPad, E3dd, M}
+use Rattle.block.specs.declared.Group.{Group}
+use Rattle.block.specs.declared.Sort.{Sort}
+use Rattle.block.specs.declared.Seen.{Seen}
 use Rattle.block.specs.declared.Row.{Row}
 use Rattle.block.specs.declared.Located.the-variants.{At, Refused}
 use Rattle.block.specs.Layout.{nm, bm1, inner, bit, first, dumped, layoutOf}
-use Rattle.block.specs.Parts.{rowOf, parts, rankOf, hidden, found, inLayout, locateOf, partOf}
-use Rattle.block.specs.Steps.{hides}
+use Rattle.block.specs.Parts.{nmRow, bm1Row, parts, rankOf, hidden, found, inLayout, locateOf, partOf}
+use Rattle.block.specs.Steps.{layoutIs, layoutBy, groupOf, hides}
 
 -- the table law: a part's group is hidden exactly if one of 01's sentences hides the part
 whole : (x : Bool) → x ≡ x || false || false
@@ -38,13 +41,13 @@ electrons true y = refl
 electrons false y = refl
 
 module _ (d1 d2 : ℕ) where
-  ion : hides (rowOf Mtrx .4) d1 d2 ≡ hidden Mtrx d1 d2
+  ion : hides (groupOf Mtrx) d1 d2 ≡ hidden Mtrx d1 d2
   ion = ions (bit d1 2) (bit d1 0 || bit d1 3)
 
-  electron : hides (rowOf M .4) d1 d2 ≡ hidden M d1 d2
+  electron : hides (groupOf M) d1 d2 ≡ hidden M d1 d2
   electron = electrons (bit d1 2) (bit d1 1 || bit d2 7)
 
-  pub hides-01 : (p : Part) → hides (rowOf p .4) d1 d2 ≡ hidden p d1 d2
+  pub hides-01 : (p : Part) → hides (groupOf p) d1 d2 ≡ hidden p d1 d2
   hides-01 Marker = refl
   hides-01 Index = refl
   hides-01 Descriptor1 = refl
@@ -66,12 +69,17 @@ module _ (d1 d2 : ℕ) where
   hides-01 M = electron
 
 -- so what the code answers of a row is the definition's answer of its part
-module _ (p : Part) (r : Row) (d1 d2 : ℕ) (e : r ≡ rowOf p) where
-  pub nm-found : found (r .0) (r .1) (hides (r .4) d1 d2) ≡ inLayout (Nm d1 d2) p
-  nm-found = rw e (ap (found (rowOf p .0) (rowOf p .1)) (hides-01 d1 d2 p))
+pub found-01 : (p : Part) (r q : Row) (g : Group) (d1 d2 : ℕ) → r ≡ q → g ≡ groupOf p → found r (hides g d1 d2) ≡ found q (hidden p d1 d2)
+found-01 p r q g d1 d2 e f = rw (e, f) (ap (found q) (hides-01 d1 d2 p))
 
-  pub bm1-found : found (r .2) (r .3) (hides (r .4) d1 d2) ≡ inLayout (Bm1 d1 d2) p
-  bm1-found = rw e (ap (found (rowOf p .2) (rowOf p .3)) (hides-01 d1 d2 p))
+-- what a block was found to be, once its sort is known: the layout, and what is answered of a part
+pub seen-as : (b : List ℕ) (s : Seen) (k : Sort) → s .0 ≡ k → layoutBy s ≡ layoutOf b → layoutIs k (s .1) (s .2) ≡ layoutOf b
+seen-as b s k e h = ap (λ (q : Sort). layoutIs q (s .1) (s .2)) (sym e) ∙ h
+
+pub located-as : (b : List ℕ) (p : Part) (s : Seen) (k : Sort) → s .0 ≡ k → layoutBy s ≡ layoutOf b
+    → inLayout (layoutIs k (s .1) (s .2)) p ≡ locateOf b p
+unfolding locateOf
+located-as b p s k e h = ap (λ (l : Layout). inLayout l p) (seen-as b s k e h)
 
 -- a test that passes at each listed part passes at every part: none is left out of the list
 abbrev pub allOf : (Part → Bool) → List Part → Bool
@@ -109,13 +117,13 @@ every-part f t p = subst (λ (q : Part). T (f q)) (ranked p) (all-at f parts t (
 
 -- each part of either table ends in its block
 abbrev fits : Part → Bool
-fits p = both (leb (rowOf p .0 + rowOf p .1) 512) (leb (rowOf p .2 + rowOf p .3) 2304)
+fits p = both (leb (nmRow p .at + nmRow p .n) 512) (leb (bm1Row p .at + bm1Row p .n) 2304)
 
-all-fit : (p : Part) → (rowOf p .0 + rowOf p .1 ≤ 512) × (rowOf p .2 + rowOf p .3 ≤ 2304)
+all-fit : (p : Part) → (nmRow p .at + nmRow p .n ≤ 512) × (bm1Row p .at + bm1Row p .n ≤ 2304)
 all-fit p =
     let t = every-part fits tt p in
-    let x = leb (rowOf p .0 + rowOf p .1) 512 in
-    let y = leb (rowOf p .2 + rowOf p .3) 2304 in
+    let x = leb (nmRow p .at + nmRow p .n) 512 in
+    let y = leb (bm1Row p .at + bm1Row p .n) 2304 in
     (leb→le _ _ (both-left x y t), leb→le _ _ (both-right x y t))
 
 -- what a layout tells of its block: the length, and descriptor 1
@@ -159,13 +167,13 @@ some (suc n) e = omega arith
 within : (l : Layout) (b : List ℕ) (p : Part) (a n : ℕ) → told l b → inLayout l p ≡ At a n → (0 < n) × (a + n ≤ length b)
 within (Bad r) b p a n t e = absurd (refused-at r a n e)
 within (Nm d1 d2) b p a n t e =
-    let f = found-is (eqb (rowOf p .1) 0) (hidden p d1 d2) (rowOf p .0) (rowOf p .1) a n e in
-    let s = some (rowOf p .1) (f .0) in
+    let f = found-is (eqb (nmRow p .n) 0) (hidden p d1 d2) (nmRow p .at) (nmRow p .n) a n e in
+    let s = some (nmRow p .n) (f .0) in
     let w = all-fit p .0 in
     (omega (arith, f .3), omega (arith, f .2, f .3, t .0))
 within (Bm1 d1 d2) b p a n t e =
-    let f = found-is (eqb (rowOf p .3) 0) (hidden p d1 d2) (rowOf p .2) (rowOf p .3) a n e in
-    let s = some (rowOf p .3) (f .0) in
+    let f = found-is (eqb (bm1Row p .n) 0) (hidden p d1 d2) (bm1Row p .at) (bm1Row p .n) a n e in
+    let s = some (bm1Row p .n) (f .0) in
     let w = all-fit p .1 in
     (omega (arith, f .3), omega (arith, f .2, f .3, t .0))
 

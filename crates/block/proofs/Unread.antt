@@ -17,7 +17,7 @@ use Rattle.block.specs.declared.Part.{Part}
 use Rattle.block.specs.declared.Located.{Located}
 use Rattle.block.specs.declared.Located.the-variants.{At, Refused}
 use Rattle.block.specs.Layout.{unread, marker, bit, dumped, layoutOf}
-use Rattle.block.specs.Parts.{rowOf, among, opening, hidden, inLayout, locateOf, bytesOf, partOf}
+use Rattle.block.specs.Parts.{nmRow, bm1Row, among, opening, hidden, inLayout, locateOf, bytesOf, partOf}
 use Rattle.block.proofs.Laws.{every-part, refused-at, found-is, told, layout-told}
 
 -- only marker, index and descriptor 1 are located then, and they lie in the first five bytes
@@ -28,23 +28,23 @@ shown : (p : Part) (d1 d2 : ℕ) → bit d1 2 ≡ true → hidden p d1 d2 ≡ fa
 shown p d1 d2 e h = split (among p opening) (λ t. t) (λ t. absurd (never (simp (t, e) at h)))
 
 abbrev low : Part → Bool
-low p = both (leb (rowOf p .0 + rowOf p .1) 5) (leb (rowOf p .2 + rowOf p .3) 5)
+low p = both (leb (nmRow p .at + nmRow p .n) 5) (leb (bm1Row p .at + bm1Row p .n) 5)
 
-all-low : (p : Part) → among p opening ≡ true → (rowOf p .0 + rowOf p .1 ≤ 5) × (rowOf p .2 + rowOf p .3 ≤ 5)
+all-low : (p : Part) → among p opening ≡ true → (nmRow p .at + nmRow p .n ≤ 5) × (bm1Row p .at + bm1Row p .n ≤ 5)
 all-low p q =
     let t : T (low p) = rw q at (every-part (λ (r : Part). pick (among r opening) (low r) true) tt p) in
-    let x = leb (rowOf p .0 + rowOf p .1) 5 in
-    let y = leb (rowOf p .2 + rowOf p .3) 5 in
+    let x = leb (nmRow p .at + nmRow p .n) 5 in
+    let y = leb (bm1Row p .at + bm1Row p .n) 5 in
     (leb→le _ _ (both-left x y t), leb→le _ _ (both-right x y t))
 
 early : (l : Layout) (b : List ℕ) (p : Part) (a n : ℕ) → told l b → dumped b ≡ true → inLayout l p ≡ At a n → a + n ≤ 5
 early (Bad r) b p a n t d e = absurd (refused-at r a n e)
 early (Nm d1 d2) b p a n t d e =
-    let f = found-is (eqb (rowOf p .1) 0) (hidden p d1 d2) (rowOf p .0) (rowOf p .1) a n e in
+    let f = found-is (eqb (nmRow p .n) 0) (hidden p d1 d2) (nmRow p .at) (nmRow p .n) a n e in
     let i = all-low p (shown p d1 d2 (rw (t .1) d) (f .1)) in
     omega (arith, i .0, f .2, f .3)
 early (Bm1 d1 d2) b p a n t d e =
-    let f = found-is (eqb (rowOf p .3) 0) (hidden p d1 d2) (rowOf p .2) (rowOf p .3) a n e in
+    let f = found-is (eqb (bm1Row p .n) 0) (hidden p d1 d2) (bm1Row p .at) (bm1Row p .n) a n e in
     let i = all-low p (shown p d1 d2 (rw (t .1) d) (f .1)) in
     omega (arith, i .1, f .2, f .3)
 

@@ -6,7 +6,7 @@ use Prim.Native.Nat.{ℕ, _+_}
 use lib.Dec.{leb, ltb}
 use Rattle.base.specs.Pick.{pick}
 use Rattle.block.specs.declared.Part.{Part}
-use Rattle.block.specs.Parts.{rowOf, parts}
+use Rattle.block.specs.Parts.{nmRow, bm1Row, parts}
 
 -- a stretch of bytes: position and length
 abbrev pub Stretch : Type 0
@@ -21,11 +21,11 @@ spares = (0x009, 1) ∷ (0x155, 1) ∷ []
 
 abbrev pub nmStretches : List Part → List Stretch
 nmStretches [] = []
-nmStretches (p ∷ ps) = (rowOf p .0, rowOf p .1) ∷ nmStretches ps
+nmStretches (p ∷ ps) = (nmRow p .at, nmRow p .n) ∷ nmStretches ps
 
 abbrev pub bm1Stretches : List Part → List Stretch
 bm1Stretches [] = []
-bm1Stretches (p ∷ ps) = (rowOf p .2, rowOf p .3) ∷ bm1Stretches ps
+bm1Stretches (p ∷ ps) = (bm1Row p .at, bm1Row p .n) ∷ bm1Stretches ps
 
 -- all that an NM block holds, and all that a BM1 block holds
 abbrev pub nmHeld : List Stretch

@@ -11,7 +11,7 @@ use Rattle.block.specs.declared.Located.{Located}
 use Rattle.block.specs.declared.Located.the-variants.{At, Refused}
 use Rattle.block.specs.Refusals.{numberOf}
 use Rattle.block.specs.Layout.{nm, bm1, inner, first, dumped, second}
-use Rattle.block.specs.Parts.{rowOf, hidden}
+use Rattle.block.specs.Parts.{nmRow, bm1Row, hidden}
 
 -- the number of an answer: 0 where a part was located
 abbrev pub numberIn : Located → ℕ
@@ -37,4 +37,4 @@ hiddenIn b p = hidden p (first b) (second b (pick (nm b) 0x14F 0x154))
 
 abbrev pub partRefusals : List ℕ → Part → List (Bool × ℕ)
 partRefusals b p =
-    blockRefusals b ++ (eqb (pick (nm b) (rowOf p .1) (rowOf p .3)) 0, 22) ∷ (hiddenIn b p, 23) ∷ []
+    blockRefusals b ++ (eqb (pick (nm b) (nmRow p .n) (bm1Row p .n)) 0, 22) ∷ (hiddenIn b p, 23) ∷ []

@@ -11,38 +11,58 @@ use Rattle.block.specs.declared.Layout.{Layout}
 use Rattle.block.specs.declared.Layout.the-variants.{Nm, Bm1, Bad}
 use Rattle.block.specs.declared.Part.{Part}
 use Rattle.block.specs.declared.Part.the-variants.{Marker, Index, Descriptor1, Calibration, MSigns, Sgl0, DirectEvents, HSpct, ISpct, Sgl1, Sgl2, Sgl3, IPad, I3dd, Mtrx, Descriptor2, EPad, E3dd, M}
-use Rattle.block.specs.declared.Group.{Group}
-use Rattle.block.specs.declared.Group.the-variants.{Open, Whole, Ions, Electrons}
 use Rattle.block.specs.declared.Row.{Row}
 use Rattle.block.specs.declared.Located.{Located}
 use Rattle.block.specs.declared.Located.the-variants.{At, Refused}
 use Rattle.block.specs.Layout.{bit, layoutOf}
 
--- G's two position tables: position and length in NM, position and length in BM1 (a length of 0: not in BM1).
--- The last column serves the code alone: `hides-01` of proofs/Laws shows that it says what `hidden` says.
-abbrev row : ℕ → ℕ → ℕ → ℕ → Group → Row
-row a n b m g = record { 0 = a; 1 = n; 2 = b; 3 = m; 4 = g }
+-- a row of a position table: position and length
+abbrev row : ℕ → ℕ → Row
+row a n = record { at = a; n = n }
 
-abbrev pub rowOf : Part → Row
-rowOf Marker = row 0x000 3 0x000 3 Open
-rowOf Index = row 0x003 1 0x003 1 Open
-rowOf Descriptor1 = row 0x004 1 0x004 1 Open
-rowOf Calibration = row 0x005 2 0x005 2 Ions
-rowOf MSigns = row 0x007 2 0x007 2 Ions
-rowOf Sgl0 = row 0x009 1 0 0 Ions
-rowOf DirectEvents = row 0x00A 60 0x00A 318 Ions
-rowOf HSpct = row 0x046 8 0x148 8 Ions
-rowOf ISpct = row 0x04E 4 0x150 4 Ions
-rowOf Sgl1 = row 0x052 1 0x156 80 Ions
-rowOf Sgl2 = row 0x053 3 0x1A6 9 Ions
-rowOf Sgl3 = row 0x056 1 0x1AF 3 Ions
-rowOf IPad = row 0x057 96 0x1B2 96 Ions
-rowOf I3dd = row 0x0B7 144 0x215 576 Ions
-rowOf Mtrx = row 0x147 8 0x455 32 Ions
-rowOf Descriptor2 = row 0x14F 1 0x154 1 Whole
-rowOf EPad = row 0x150 96 0 0 Electrons
-rowOf E3dd = row 0x1B0 72 0x478 1152 Electrons
-rowOf M = row 0x1F8 8 0x8F8 8 Electrons
+-- G's position table of NM
+abbrev pub nmRow : Part → Row
+nmRow Marker = row 0x000 3
+nmRow Index = row 0x003 1
+nmRow Descriptor1 = row 0x004 1
+nmRow Calibration = row 0x005 2
+nmRow MSigns = row 0x007 2
+nmRow Sgl0 = row 0x009 1
+nmRow DirectEvents = row 0x00A 60
+nmRow HSpct = row 0x046 8
+nmRow ISpct = row 0x04E 4
+nmRow Sgl1 = row 0x052 1
+nmRow Sgl2 = row 0x053 3
+nmRow Sgl3 = row 0x056 1
+nmRow IPad = row 0x057 96
+nmRow I3dd = row 0x0B7 144
+nmRow Mtrx = row 0x147 8
+nmRow Descriptor2 = row 0x14F 1
+nmRow EPad = row 0x150 96
+nmRow E3dd = row 0x1B0 72
+nmRow M = row 0x1F8 8
+
+-- G's position table of BM1 (a length of 0: not in BM1)
+abbrev pub bm1Row : Part → Row
+bm1Row Marker = row 0x000 3
+bm1Row Index = row 0x003 1
+bm1Row Descriptor1 = row 0x004 1
+bm1Row Calibration = row 0x005 2
+bm1Row MSigns = row 0x007 2
+bm1Row Sgl0 = row 0 0
+bm1Row DirectEvents = row 0x00A 318
+bm1Row HSpct = row 0x148 8
+bm1Row ISpct = row 0x150 4
+bm1Row Sgl1 = row 0x156 80
+bm1Row Sgl2 = row 0x1A6 9
+bm1Row Sgl3 = row 0x1AF 3
+bm1Row IPad = row 0x1B2 96
+bm1Row I3dd = row 0x215 576
+bm1Row Mtrx = row 0x455 32
+bm1Row Descriptor2 = row 0x154 1
+bm1Row EPad = row 0 0
+bm1Row E3dd = row 0x478 1152
+bm1Row M = row 0x8F8 8
 
 -- the parts in the order of G's NM table
 abbrev pub parts : List Part
@@ -92,13 +112,13 @@ hidden p d1 d2 =
     || (among p electrons && (bit d1 1 || bit d2 7))
 
 -- 22 not in this layout, 23 hidden, or its place and its length
-abbrev pub found : ℕ → ℕ → Bool → Located
-found at n h = pick (eqb n 0) (Refused Beyond) (pick h (Refused Hidden) (At at n))
+abbrev pub found : Row → Bool → Located
+found r h = pick (eqb (r .n) 0) (Refused Beyond) (pick h (Refused Hidden) (At (r .at) (r .n)))
 
 abbrev pub inLayout : Layout → Part → Located
 inLayout (Bad r) p = Refused r
-inLayout (Nm d1 d2) p = found (rowOf p .0) (rowOf p .1) (hidden p d1 d2)
-inLayout (Bm1 d1 d2) p = found (rowOf p .2) (rowOf p .3) (hidden p d1 d2)
+inLayout (Nm d1 d2) p = found (nmRow p) (hidden p d1 d2)
+inLayout (Bm1 d1 d2) p = found (bm1Row p) (hidden p d1 d2)
 
 unfoldable pub locateOf : List ℕ → Part → Located
 locateOf b p = inLayout (layoutOf b) p

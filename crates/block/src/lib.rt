@@ -7,8 +7,8 @@ ghost use lib.Dec.{eqb};
 ghost use lib.ListN.{length};
 ghost use Rattle.block.specs.Refusals.{numberOf};
 ghost use Rattle.block.specs.Layout.{marker, layoutOf};
-ghost use Rattle.block.specs.Parts.{rowOf, found, locateOf, partOf};
-ghost use Rattle.block.specs.Steps.{nmOf, bm1Of, hides};
+ghost use Rattle.block.specs.Parts.{nmRow, bm1Row, found, locateOf, partOf};
+ghost use Rattle.block.specs.Steps.{layoutBy, nmOf, bm1Of, groupOf, hides};
 
 // Why nothing is handed back: 19 to 24. The last is of the IFFT block alone.
 pub enum Refusal {
@@ -64,15 +64,31 @@ enum Group {
     Electrons,
 }
 
-// First byte and length in NM, the same in BM1, and who hides the part. A length of 0: not in that layout.
-struct Row(usize, usize, usize, usize, Group);
+// Where a part stands in one layout: its first byte and its length. A length of 0: not in that layout.
+struct Row {
+    at: usize,
+    n: usize,
+}
+
+// What a block was found to be, descriptors aside.
+enum Sort {
+    Nm,
+    Bm1,
+    NoMarker,
+    WrongLength,
+    InnerMarker,
+}
+
+// The same as `Layout`, with the descriptors in one place whatever the case, so that the compiler can keep them out of memory.
+// Where the block is refused they say nothing.
+struct Seen(Sort, u8, u8);
 
 // Where the two content descriptors stand.
-const FIRST: usize = 0x004;
+const D1: usize = 0x004;
 
-const NM_SECOND: usize = 0x14F;
+const NM_D2: usize = 0x14F;
 
-const BM1_SECOND: usize = 0x154;
+const BM1_D2: usize = 0x154;
 
 // The number that 01 gives a refusal.
 pub fn number(refusal: Refusal) -> u8
@@ -88,30 +104,84 @@ pub fn number(refusal: Refusal) -> u8
     }
 }
 
-// G's two position tables: the one place where positions stand.
-fn row_of(part: Part) -> Row
-    ensures { λ r. ⌜ r ≡ rowOf part ⌝ }
+// G's position table of NM.
+fn nm_row(part: Part) -> Row
+    ensures { λ r. ⌜ r ≡ nmRow part ⌝ }
 {
     match part {
-        Part::Marker => Row(0x000, 3, 0x000, 3, Group::Open),
-        Part::Index => Row(0x003, 1, 0x003, 1, Group::Open),
-        Part::Descriptor1 => Row(FIRST, 1, FIRST, 1, Group::Open),
-        Part::Calibration => Row(0x005, 2, 0x005, 2, Group::Ions),
-        Part::MSigns => Row(0x007, 2, 0x007, 2, Group::Ions),
-        Part::Sgl0 => Row(0x009, 1, 0, 0, Group::Ions),
-        Part::DirectEvents => Row(0x00A, 60, 0x00A, 318, Group::Ions),
-        Part::HSpct => Row(0x046, 8, 0x148, 8, Group::Ions),
-        Part::ISpct => Row(0x04E, 4, 0x150, 4, Group::Ions),
-        Part::Sgl1 => Row(0x052, 1, 0x156, 80, Group::Ions),
-        Part::Sgl2 => Row(0x053, 3, 0x1A6, 9, Group::Ions),
-        Part::Sgl3 => Row(0x056, 1, 0x1AF, 3, Group::Ions),
-        Part::IPad => Row(0x057, 96, 0x1B2, 96, Group::Ions),
-        Part::I3dd => Row(0x0B7, 144, 0x215, 576, Group::Ions),
-        Part::Mtrx => Row(0x147, 8, 0x455, 32, Group::Ions),
-        Part::Descriptor2 => Row(NM_SECOND, 1, BM1_SECOND, 1, Group::Whole),
-        Part::EPad => Row(0x150, 96, 0, 0, Group::Electrons),
-        Part::E3dd => Row(0x1B0, 72, 0x478, 1152, Group::Electrons),
-        Part::M => Row(0x1F8, 8, 0x8F8, 8, Group::Electrons),
+        Part::Marker => Row { at: 0x000, n: 3 },
+        Part::Index => Row { at: 0x003, n: 1 },
+        Part::Descriptor1 => Row { at: D1, n: 1 },
+        Part::Calibration => Row { at: 0x005, n: 2 },
+        Part::MSigns => Row { at: 0x007, n: 2 },
+        Part::Sgl0 => Row { at: 0x009, n: 1 },
+        Part::DirectEvents => Row { at: 0x00A, n: 60 },
+        Part::HSpct => Row { at: 0x046, n: 8 },
+        Part::ISpct => Row { at: 0x04E, n: 4 },
+        Part::Sgl1 => Row { at: 0x052, n: 1 },
+        Part::Sgl2 => Row { at: 0x053, n: 3 },
+        Part::Sgl3 => Row { at: 0x056, n: 1 },
+        Part::IPad => Row { at: 0x057, n: 96 },
+        Part::I3dd => Row { at: 0x0B7, n: 144 },
+        Part::Mtrx => Row { at: 0x147, n: 8 },
+        Part::Descriptor2 => Row { at: NM_D2, n: 1 },
+        Part::EPad => Row { at: 0x150, n: 96 },
+        Part::E3dd => Row { at: 0x1B0, n: 72 },
+        Part::M => Row { at: 0x1F8, n: 8 },
+    }
+}
+
+// G's position table of BM1.
+fn bm1_row(part: Part) -> Row
+    ensures { λ r. ⌜ r ≡ bm1Row part ⌝ }
+{
+    match part {
+        Part::Marker => Row { at: 0x000, n: 3 },
+        Part::Index => Row { at: 0x003, n: 1 },
+        Part::Descriptor1 => Row { at: D1, n: 1 },
+        Part::Calibration => Row { at: 0x005, n: 2 },
+        Part::MSigns => Row { at: 0x007, n: 2 },
+        Part::Sgl0 => Row { at: 0, n: 0 },
+        Part::DirectEvents => Row { at: 0x00A, n: 318 },
+        Part::HSpct => Row { at: 0x148, n: 8 },
+        Part::ISpct => Row { at: 0x150, n: 4 },
+        Part::Sgl1 => Row { at: 0x156, n: 80 },
+        Part::Sgl2 => Row { at: 0x1A6, n: 9 },
+        Part::Sgl3 => Row { at: 0x1AF, n: 3 },
+        Part::IPad => Row { at: 0x1B2, n: 96 },
+        Part::I3dd => Row { at: 0x215, n: 576 },
+        Part::Mtrx => Row { at: 0x455, n: 32 },
+        Part::Descriptor2 => Row { at: BM1_D2, n: 1 },
+        Part::EPad => Row { at: 0, n: 0 },
+        Part::E3dd => Row { at: 0x478, n: 1152 },
+        Part::M => Row { at: 0x8F8, n: 8 },
+    }
+}
+
+// Which test data hide a part.
+fn group_of(part: Part) -> Group
+    ensures { λ r. ⌜ r ≡ groupOf part ⌝ }
+{
+    match part {
+        Part::Marker => Group::Open,
+        Part::Index => Group::Open,
+        Part::Descriptor1 => Group::Open,
+        Part::Calibration => Group::Ions,
+        Part::MSigns => Group::Ions,
+        Part::Sgl0 => Group::Ions,
+        Part::DirectEvents => Group::Ions,
+        Part::HSpct => Group::Ions,
+        Part::ISpct => Group::Ions,
+        Part::Sgl1 => Group::Ions,
+        Part::Sgl2 => Group::Ions,
+        Part::Sgl3 => Group::Ions,
+        Part::IPad => Group::Ions,
+        Part::I3dd => Group::Ions,
+        Part::Mtrx => Group::Ions,
+        Part::Descriptor2 => Group::Whole,
+        Part::EPad => Group::Electrons,
+        Part::E3dd => Group::Electrons,
+        Part::M => Group::Electrons,
     }
 }
 
@@ -141,50 +211,64 @@ fn is_set(d: u8, weight: u8) -> bool
 }
 
 // What follows an NM marker.
-fn nm_layout(b: &[u8]) -> Layout
-    ensures { λ r. ⌜ r ≡ nmOf (now (b .entry)) ⌝ }
+fn nm_seen(b: &[u8]) -> Seen
+    ensures { λ r. ⌜ layoutBy r ≡ nmOf (now (b .entry)) ⌝ }
 {
     if b.len() != 512 {
-        return Layout::Bad(Refusal::WrongLength);
+        return Seen(Sort::WrongLength, 0, 0);
     }
-    if is_set(b[FIRST], 4) {
-        return Layout::Nm(b[FIRST], 0);
+    if is_set(b[D1], 4) {
+        return Seen(Sort::Nm, b[D1], 0);
     }
-    Layout::Nm(b[FIRST], b[NM_SECOND])
+    Seen(Sort::Nm, b[D1], b[NM_D2])
 }
 
 // What follows a BM1 marker. A memory dump has only the first marker, so the inner ones are not looked at there.
-fn bm1_layout(b: &[u8]) -> Layout
-    ensures { λ r. ⌜ r ≡ bm1Of (now (b .entry)) ⌝ }
+fn bm1_seen(b: &[u8]) -> Seen
+    ensures { λ r. ⌜ layoutBy r ≡ bm1Of (now (b .entry)) ⌝ }
 {
     if b.len() != 2304 {
-        return Layout::Bad(Refusal::WrongLength);
+        return Seen(Sort::WrongLength, 0, 0);
     }
-    if is_set(b[FIRST], 4) {
-        return Layout::Bm1(b[FIRST], 0);
+    if is_set(b[D1], 4) {
+        return Seen(Sort::Bm1, b[D1], 0);
     }
     if is_marker(b, 0x212, 0x4C, 0x43, 0xE2) {
         if is_marker(b, 0x475, 0x54, 0xE1, 0xE1) {
-            return Layout::Bm1(b[FIRST], b[BM1_SECOND]);
+            return Seen(Sort::Bm1, b[D1], b[BM1_D2]);
         }
     }
-    Layout::Bad(Refusal::InnerMarker)
+    Seen(Sort::InnerMarker, 0, 0)
 }
 
 // What a block is, or the first of 20 (under 3 bytes), 19, 20, 21 that it is refused with.
+fn look(b: &[u8]) -> Seen
+    ensures { λ r. ⌜ layoutBy r ≡ layoutOf (now (b .entry)) ⌝ }
+{
+    if b.len() < 3 {
+        return Seen(Sort::WrongLength, 0, 0);
+    }
+    if is_marker(b, 0x000, 0x14, 0x6F, 0x2E) {
+        return nm_seen(b);
+    }
+    if is_marker(b, 0x000, 0x14, 0x6F, 0x3D) {
+        return bm1_seen(b);
+    }
+    Seen(Sort::NoMarker, 0, 0)
+}
+
 pub fn layout_of(b: &[u8]) -> Layout
     ensures { λ r. ⌜ r ≡ layoutOf (now (b .entry)) ⌝ }
 {
-    if b.len() < 3 {
-        return Layout::Bad(Refusal::WrongLength);
+    let s = look(b);
+    let sort = s.0;
+    match sort {
+        Sort::Nm => Layout::Nm(s.1, s.2),
+        Sort::Bm1 => Layout::Bm1(s.1, s.2),
+        Sort::NoMarker => Layout::Bad(Refusal::NoMarker),
+        Sort::WrongLength => Layout::Bad(Refusal::WrongLength),
+        Sort::InnerMarker => Layout::Bad(Refusal::InnerMarker),
     }
-    if is_marker(b, 0x000, 0x14, 0x6F, 0x2E) {
-        return nm_layout(b);
-    }
-    if is_marker(b, 0x000, 0x14, 0x6F, 0x3D) {
-        return bm1_layout(b);
-    }
-    Layout::Bad(Refusal::NoMarker)
 }
 
 fn any(x: bool, y: bool, z: bool) -> bool
@@ -212,10 +296,10 @@ fn is_hidden(group: Group, d1: u8, d2: u8) -> bool
 }
 
 // 22 before 23: a part that a layout does not have is never called hidden.
-fn found_at(at: usize, n: usize, group: Group, d1: u8, d2: u8) -> Located
-    ensures { λ r. ⌜ r ≡ found at n (hides group d1 d2) ⌝ }
+fn found_at(row: Row, group: Group, d1: u8, d2: u8) -> Located
+    ensures { λ r. ⌜ r ≡ found row (hides group d1 d2) ⌝ }
 {
-    let absent = n == 0;
+    let absent = row.n == 0;
     let hidden = is_hidden(group, d1, d2);
     if absent {
         return Located::Refused(Refusal::Beyond);
@@ -223,20 +307,22 @@ fn found_at(at: usize, n: usize, group: Group, d1: u8, d2: u8) -> Located
     if hidden {
         return Located::Refused(Refusal::Hidden);
     }
-    Located::At(at, n)
+    Located::At(row.at, row.n)
 }
 
-// Where a part stands: its first byte and its length; or the refusal.
+// Where a part stands: its first byte and its length; or the refusal. Row and group are asked for in the arm of the layout alone, which spares the
+// compiler a second choice by the part.
 pub fn locate(b: &[u8], part: Part) -> Located
     ensures { λ r. ⌜ r ≡ locateOf (now (b .entry)) part ⌝ }
 {
-    let row = row_of(part);
-    let group = row.4;
-    let layout = layout_of(b);
-    match layout {
-        Layout::Bad(r) => Located::Refused(r),
-        Layout::Nm(d1, d2) => found_at(row.0, row.1, group, d1, d2),
-        Layout::Bm1(d1, d2) => found_at(row.2, row.3, group, d1, d2),
+    let s = look(b);
+    let sort = s.0;
+    match sort {
+        Sort::Nm => found_at(nm_row(part), group_of(part), s.1, s.2),
+        Sort::Bm1 => found_at(bm1_row(part), group_of(part), s.1, s.2),
+        Sort::NoMarker => Located::Refused(Refusal::NoMarker),
+        Sort::WrongLength => Located::Refused(Refusal::WrongLength),
+        Sort::InnerMarker => Located::Refused(Refusal::InnerMarker),
     }
 }
 

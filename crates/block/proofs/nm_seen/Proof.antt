@@ -1,11 +1,11 @@
--- `block::nm_layout` meets its contract: the length, then whether descriptor 2 is looked at.
+-- `block::nm_seen` meets its contract: the length, then whether descriptor 2 is looked at.
 -- Assumes nothing.
 use mathlib.Core.Path.{sym, _∙_}
 use borrow.Author.Needs.{needs}
 use borrow.Author.Tests.{eq-eqb, ne-eqb}
 use Rattle.block.specs.Steps.{nmOf}
-use Rattle.block.proofs.nm_layout.Statement.{statement}
-use Rattle.block.proofs.nm_layout.Tie as tie
+use Rattle.block.proofs.nm_seen.Statement.{statement}
+use Rattle.block.proofs.nm_seen.Tie as tie
 
 returns : tie.Need-returns
 unfolding nmOf
@@ -24,8 +24,8 @@ returns-3 c =
       sym (c .before .before .before .is-set .ensures) ∙ c .before .before .if2 .left,
     )
 
-pub nm-layout-spec : {M : Type 1} → statement M
-nm-layout-spec =
+pub nm-seen-spec : {M : Type 1} → statement M
+nm-seen-spec =
     tie.close
     (tie.spec
     returns

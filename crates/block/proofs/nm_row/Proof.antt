@@ -1,11 +1,11 @@
--- `block::row_of` meets its contract: in each arm the part is known, and its row computes.
+-- `block::nm_row` meets its contract: in each arm the part is known, and its row computes.
 -- Assumes nothing.
 use borrow.Author.Needs.{needs}
-use Rattle.block.proofs.row_of.Statement.{statement}
-use Rattle.block.proofs.row_of.Tie as tie
+use Rattle.block.proofs.nm_row.Statement.{statement}
+use Rattle.block.proofs.nm_row.Tie as tie
 
-pub row-of-spec : {M : Type 1} → statement M
-row-of-spec =
+pub nm-row-spec : {M : Type 1} → statement M
+nm-row-spec =
     tie.close
     (tie.spec
     (λ c. search needs)

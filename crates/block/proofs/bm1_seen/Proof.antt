@@ -1,4 +1,4 @@
--- `block::bm1_layout` meets its contract: the length, then whether the inner markers are looked at, then each of them.
+-- `block::bm1_seen` meets its contract: the length, then whether the inner markers are looked at, then each of them.
 -- Assumes nothing.
 use mathlib.Core.Path.{_≡_, sym, _∙_}
 use mathlib.Core.Bool.{true, false}
@@ -9,8 +9,8 @@ use borrow.Author.Needs.{needs}
 use borrow.Author.Tests.{eq-eqb, ne-eqb}
 use Rattle.block.specs.Layout.{dumped, marker}
 use Rattle.block.specs.Steps.{bm1Of}
-use Rattle.block.proofs.bm1_layout.Statement.{statement}
-use Rattle.block.proofs.bm1_layout.Tie as tie
+use Rattle.block.proofs.bm1_seen.Statement.{statement}
+use Rattle.block.proofs.bm1_seen.Tie as tie
 
 -- what the first two tests showed, and what the first marker did
 long : (c : tie.Else1) → eqb (length (now (c .before .before .args .b))) 2304 ≡ true
@@ -56,8 +56,8 @@ returns-5 c =
     simp
     (long (c .before .before .before .before .before), looked (c .before .before), sym (c .before .is-marker .ensures) ∙ c .if3 .left)
 
-pub bm1-layout-spec : {M : Type 1} → statement M
-bm1-layout-spec =
+pub bm1-seen-spec : {M : Type 1} → statement M
+bm1-seen-spec =
     tie.close
     (tie.spec
     returns
