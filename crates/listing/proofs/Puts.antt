@@ -6,7 +6,7 @@ use Prim.Native.Nat.{ℕ, _+_, _-_, _≤_}
 use native.Mathlib.Nat.{le-of-eq, add-zero, zero-add, add-assoc}
 use native.Mathlib.Omega.{arith}
 use lib.ListN.{length, take, drop, length-append, length-drop, take-append-drop, drop-of-length-le}
-use lib.Seq.{take-append-seam, drop-append-add, length-take-le, take-all, drop-drop}
+use lib.Seq.{take-append-seam, drop-append-add, length-take-le, drop-drop}
 use Rattle.base.specs.Copied.{copied}
 use Rattle.base.proofs.Copy.{copied-whole}
 use Rattle.listing.specs.Page.{put, Puts, atFront, Within}
@@ -49,10 +49,15 @@ front {s} {p} h =
     let f = rw zero-add at (h .content) in
     (e, f, rw (e, f) (within s p))
 
--- what a copy puts at the front of the part from `at` on, said of the whole page
+-- what a copy puts into the stretch of the page that is lent, which is as long as the text, said of the whole page
+back : (a n : ℕ) → a + n - a ≡ n
+back a n = omega arith
+
 pub placed : (at : ℕ) (s p : List ℕ) → at + length s ≤ length p
-    → take at p ++ (copied s (take (length p - at) (drop at p)) ++ drop (length p - at) (drop at p)) ≡ put at s p
+    → take at p ++ (copied s (take (at + length s - at) (drop at p)) ++ drop (at + length s - at) (drop at p)) ≡ put at s p
 placed at s p room =
-    rw (take-all (length p - at) (drop at p) (le-of-eq (length-drop at p)))
-    (rw (drop-of-length-le (drop at p) {i = length p - at} (le-of-eq (length-drop at p)))
-    (rw (copied-whole s (drop at p) (simp length-drop (omega arith))) (simp (append-nil, drop-drop))))
+    let x = take (length s) (drop at p) in
+    let n : length x ≡ length s = length-take-le (length s) (drop at p) (simp length-drop (omega (arith, room))) in
+    rw (back at (length s))
+    (rw (copied-whole s x (le-of-eq (sym n)))
+    (rw (drop-of-length-le x {i = length s} (le-of-eq n)) (simp (append-nil, drop-drop))))

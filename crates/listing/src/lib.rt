@@ -55,8 +55,9 @@ fn put_text(text: &[u8], page: &mut [u8], at: usize) -> usize
     requires { ⌜ at + length (now text) ≤ length (now page) ⌝ }
     ensures { λ r. ⌜ Puts at (now (text .entry)) (now (page .entry)) r (now (page .exit)) ⌝ }
 {
-    base::bytes::copy_in(text, &mut page[at..]);
-    at + text.len()
+    let next = at + text.len();
+    base::bytes::copy_in(text, &mut page[at..next]);
+    next
 }
 
 fn put_byte(b: u8, page: &mut [u8], at: usize) -> usize
@@ -216,15 +217,6 @@ fn run(lister: Lister, bytes: &[u8], page: &mut [u8]) -> Listed
     Listed { lister: state, len }
 }
 
-fn least(n: usize, most: usize) -> usize
-    ensures { λ r. ⌜ r ≡ min n most ⌝ }
-{
-    if n < most {
-        return n;
-    }
-    most
-}
-
 // A listing begins: the rig at its start, and the first line at the front of the page.
 pub fn open(page: &mut [u8; PAGE]) -> Listed
     ensures { λ r. ⌜ (r ≡ listed startLister firstLine)
@@ -248,7 +240,7 @@ pub fn list(lister: Lister, piece: &[u8; PIECE], n: usize, page: &mut [u8; PAGE]
         × (now (page .exit) ≡ atFront (said lister (take n (now (piece .entry)))) (now (page .entry)))
         × Within (r .len) (now (page .exit)) ⌝ }
 {
-    let end = least(n, PIECE);
+    let end = base::least(n, PIECE);
     let whole: &[u8] = piece;
     run(lister, &whole[..end], page)
 }

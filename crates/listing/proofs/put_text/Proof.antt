@@ -1,4 +1,4 @@
--- `listing::put_text` meets its contract: what the copy does to the part from the place on, said of the whole page.
+-- `listing::put_text` meets its contract: what the copy does to the stretch that it is lent, said of the whole page.
 -- Assumes nothing.
 use mathlib.Core.Path.{refl}
 use borrow.Author.Needs.{needs}
@@ -19,4 +19,4 @@ pub put-text-spec : {M : Type 1} → statement M
 put-text-spec =
     tie.close
     (tie.spec
-    (λ c. search needs) (λ c. search needs) (λ c. search needs) (λ c κs. search needs) (λ c. search needs) (λ c. search needs) returns)
+    (λ c. search needs) (λ c. search needs) (λ c. search needs) (λ c. search needs) (λ c κs. search needs) (λ c. search needs) returns)
