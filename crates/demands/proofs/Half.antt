@@ -117,11 +117,11 @@ kept-grew : (i : ℕ) (x : Run) → keptAt i (grew i x) ≡ halfFrom i x
 kept-grew i broken = refl
 kept-grew i (from r) = refl
 
-born-grew-3 : (x : Run) → bornAt 3 (grew 3 x) ≡ known 25 x
+born-grew-3 : (x : Run) → bornAt (frames 3) (grew 3 x) ≡ known 25 x
 born-grew-3 broken = refl
 born-grew-3 (from r) = refl
 
-born-grew-28 : (x : Run) → bornAt 1 (grew 28 x) ≡ known 26 x
+born-grew-28 : (x : Run) → bornAt (frames 1) (grew 28 x) ≡ known 26 x
 born-grew-28 broken = refl
 born-grew-28 (from r) = refl
 
@@ -227,7 +227,7 @@ module _ (r : Rig) (h : List Slot) (g : Good r) (l : Linked r h) where
   -- what the frame shows of each item
   abbrev Reads : ℕ → ℕ → Type 0
   Reads k i =
-      pick (ltb k 25) (Known (fieldOf (nextFrame r) k) (frames 0)) (bornAt (bornOf k) (grownOf (halfOf h) i (M i)))
+      pick (ltb k 25) (Known (fieldOf (nextFrame r) k) (frames 0)) (bornAt (frames (bornOf k)) (grownOf (halfOf h) i (M i)))
       ≡ known k (back (bornOf k) i (whole r ∷ h))
 
   plain : (k : ℕ) → ltb k 25 ≡ true → bornOf k ≡ 0 → fieldOf (nextFrame r) k ≡ held r k → Reads k (r .sending .next)
@@ -247,10 +247,10 @@ module _ (r : Rig) (h : List Slot) (g : Good r) (l : Linked r h) where
       go (ltb k 25) refl
     where
       long : carries 25 (r .sending .next) ≡ true → Reads 25 (r .sending .next)
-      long e = let n : r .sending .next ≡ 3 = at 3 e in spread 25 3 n (ap (bornAt 3) (grow-3 n) ∙ born-grew-3 (back 3 3 (whole r ∷ h)))
+      long e = let n : r .sending .next ≡ 3 = at 3 e in spread 25 3 n (ap (bornAt (frames 3)) (grow-3 n) ∙ born-grew-3 (back 3 3 (whole r ∷ h)))
 
       free : carries 26 (r .sending .next) ≡ true → Reads 26 (r .sending .next)
-      free e = let n : r .sending .next ≡ 28 = at 28 e in spread 26 28 n (ap (bornAt 1) (grow-28 n) ∙ born-grew-28 (back 1 28 (whole r ∷ h)))
+      free e = let n : r .sending .next ≡ 28 = at 28 e in spread 26 28 n (ap (bornAt (frames 1)) (grow-28 n) ∙ born-grew-28 (back 1 28 (whole r ∷ h)))
 
       P : ℕ → Type 0
       P k = carries k (r .sending .next) ≡ true → Reads k (r .sending .next)
@@ -272,7 +272,7 @@ module _ (r : Rig) (h : List Slot) (g : Good r) (l : Linked r h) where
       ∙ go (carries k (r .sending .next)) refl
     where
       seen : ℕ → ℕ → Shown
-      seen i x = pick (ltb k 25) (Known (fieldOf (nextFrame r) k) (frames 0)) (bornAt (bornOf k) (grownOf (halfOf h) i x))
+      seen i x = pick (ltb k 25) (Known (fieldOf (nextFrame r) k) (frames 0)) (bornAt (frames (bornOf k)) (grownOf (halfOf h) i x))
 
       go : (c : Bool) → carries k (r .sending .next) ≡ c
           → pick c (seen (r .sending .next) (M (r .sending .next))) Unknown ≡ pick c (known k (back (bornOf k) (r .sending .next) (whole r ∷ h))) Unknown

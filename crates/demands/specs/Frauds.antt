@@ -5,6 +5,7 @@ use mathlib.Core.Bool.{Bool, true, false}
 use mathlib.Core.List.{List, [], _∷_}
 use Prim.Native.Nat.{ℕ}
 use Rattle.base.specs.Pick.{pick}
+use Rattle.base.specs.Counts.{frames}
 use Rattle.frame.specs.declared.Item.{Item}
 use Rattle.frame.specs.Items.{rowOf}
 use Rattle.desk.specs.declared.Desk.{Desk}
@@ -80,7 +81,7 @@ pretender = deskOf freshDesk (λ d f. pick (allKnown (d .cells)) (aged d) (slotO
 
 -- 5. made-up ages: everything known is shown as new
 abbrev pub flatterer : Outfit
-flatterer = deskOf freshDesk slotOf missedOf (λ d item. bornAt 0 (ours-look d item))
+flatterer = deskOf freshDesk slotOf missedOf (λ d item. bornAt (frames 0) (ours-look d item))
 
 -- or made-up invalid counts: always 0
 abbrev pub uncounted : Rig → ℕ → Taken

@@ -33,7 +33,7 @@ plain-is half f k n h = rw (eq-eqb _ _ n, lt-ltb _ _ h) (split (carries k (index
 
 -- a spread number comes with the frame that its row names, from the index i and byte 39 b
 pub spread-is : (half : Half) (f : List ℕ) (i b k j : ℕ) → i ≡ indexOf f → b ≡ getD f 39 0 → k ≡ j → periodOf j ≡ 32 → ltb j 25 ≡ false
-    → spreadOf half i b (phaseOf j) (bornOf j) ≡ readingOf half f k
+    → spreadOf half i b (phaseOf j) (frames (bornOf j)) ≡ readingOf half f k
 unfolding readingOf
 spread-is half f i b k j p q r t s =
     let m : indexOf f % 32 ≡ indexOf f = omega arith in
@@ -41,7 +41,7 @@ spread-is half f i b k j p q r t s =
 
 -- what the code shows of the item in row k
 abbrev pub codeShows : Half → List ℕ → ℕ → ℕ → ℕ → Shown
-codeShows half f i b k = pick (ltb k 25) (plainOf (readOf f k)) (pick (eqb k 25) (spreadOf half i b 3 3) (spreadOf half i b 28 1))
+codeShows half f i b k = pick (ltb k 25) (plainOf (readOf f k)) (pick (eqb k 25) (spreadOf half i b 3 (frames 3)) (spreadOf half i b 28 (frames 1)))
 
 pub reading-is : (half : Half) (f : List ℕ) (i b : ℕ) → length f ≡ 40 → i ≡ indexOf f → b ≡ getD f 39 0
     → (k : ℕ) → k < 27 → codeShows half f i b k ≡ readingOf half f k
@@ -61,7 +61,7 @@ unfolding halfAfter
 half-is half f i b p q = rw (p, q)
 
 -- no reading is older than a cell can hold
-born-fits : (a : ℕ) → a ≤ ceiling → (s : Shown) → Fits (bornAt a s)
+born-fits : (a : ℕ) → a ≤ ceiling → (s : Shown) → Fits (bornAt (frames a) s)
 born-fits a h Unknown = tt
 born-fits a h (Known v b) = h
 

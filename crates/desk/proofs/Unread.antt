@@ -9,6 +9,7 @@ use native.Mathlib.Omega.{arith}
 use lib.Dec.{eqb, ltb}
 use borrow.Author.Tests.{eqb-true, ltb-true, ltb-false, lt-ltb}
 use Rattle.base.specs.Pick.{pick}
+use Rattle.base.specs.Counts.{frames}
 use Rattle.base.proofs.Cases.{split}
 use Rattle.frame.specs.Read.{indexOf, periodOf, phaseOf, bornOf}
 use Rattle.frame.specs.Laws.{spreads, byte39, Alike}
@@ -39,7 +40,7 @@ module _ (f g : List ℕ) (a : Alike f g) (half : Half) where
   spread-row : (k j : ℕ) → k ≡ j → periodOf j ≡ 32 → ltb j 25 ≡ false → spreads (phaseOf j) ≡ true → readingOf half f k ≡ readingOf half g k
   spread-row k j q p l s =
       sym (spread-is half f (indexOf f) (byte39 f) k j refl refl q p l)
-      ∙ by-spread (λ (i : ℕ). eqb i (phaseOf j)) (λ (i b : ℕ). bornAt (bornOf j) (grownOf half i b)) Unknown (λ i e. ap spreads (eqb-true i (phaseOf j) e) ∙ s)
+      ∙ by-spread (λ (i : ℕ). eqb i (phaseOf j)) (λ (i b : ℕ). bornAt (frames (bornOf j)) (grownOf half i b)) Unknown (λ i e. ap spreads (eqb-true i (phaseOf j) e) ∙ s)
       ∙ spread-is half g (indexOf g) (byte39 g) k j refl refl q p l
 
   reading-same : (k : ℕ) → k < 27 → readingOf half f k ≡ readingOf half g k

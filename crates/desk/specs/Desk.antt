@@ -6,6 +6,7 @@ use Prim.Native.Nat.{ℕ, zero, suc, _+_, _*_, _%_}
 use lib.Dec.{eqb, ltb}
 use lib.ListN.{getD, replicate}
 use Rattle.base.specs.Pick.{pick}
+use Rattle.base.specs.declared.Frames.{Frames}
 use Rattle.base.specs.Counts.{frames, ceiling, slotOlder}
 use Rattle.frame.specs.declared.Arrived.{Arrived}
 use Rattle.frame.specs.declared.Arrived.the-variants as arrived
@@ -41,17 +42,17 @@ abbrev pub grownOf : Half → ℕ → ℕ → Shown
 grownOf half i b = pick (eqb i 0) (Known b (frames 0)) (pick (eqb i 27) (Known b (frames 0)) (joined half i b))
 
 -- the same value at age a
-abbrev pub bornAt : ℕ → Shown → Shown
+abbrev pub bornAt : Frames → Shown → Shown
 bornAt a Unknown = Unknown
-bornAt a (Known v b) = Known v (frames a)
+bornAt a (Known v b) = Known v a
 
 -- a plain item is as old as its frame
 abbrev pub plainOf : Reading → Shown
 plainOf reading.Nothing = Unknown
 plainOf (reading.Value v) = Known v (frames 0)
 
--- a spread number, complete at the frame of index `last`, its first frame then a slots old
-abbrev pub spreadOf : Half → ℕ → ℕ → ℕ → ℕ → Shown
+-- a spread number, complete at the frame of index `last`, its first frame then of age a
+abbrev pub spreadOf : Half → ℕ → ℕ → ℕ → Frames → Shown
 spreadOf half i b last a = pick (eqb i last) (bornAt a (grownOf half i b)) Unknown
 
 -- what a whole frame by itself shows of the item in row k: a plain item at age 0; a spread number, where its last byte comes, at the age
@@ -59,7 +60,7 @@ spreadOf half i b last a = pick (eqb i last) (bornAt a (grownOf half i b)) Unkno
 unfoldable pub readingOf : Half → List ℕ → ℕ → Shown
 readingOf half f k =
     pick (carries k (indexOf f))
-    (pick (ltb k 25) (Known (fieldOf f k) (frames 0)) (bornAt (bornOf k) (grownOf half (indexOf f) (getD f 39 0))))
+    (pick (ltb k 25) (Known (fieldOf f k) (frames 0)) (bornAt (frames (bornOf k)) (grownOf half (indexOf f) (getD f 39 0))))
     Unknown
 
 abbrev pub keptAt : ℕ → Shown → Half

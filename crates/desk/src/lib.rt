@@ -151,12 +151,12 @@ fn grown(half: Half, i: u8, b: u8) -> Shown
 }
 
 // The same value at age a.
-fn born(s: Shown, a: u32) -> Shown
+fn born(s: Shown, a: Frames) -> Shown
     ensures { λ r. ⌜ r ≡ bornAt a s ⌝ }
 {
     match s {
         Shown::Unknown => Shown::Unknown,
-        Shown::Known(v, _) => Shown::Known(v, Frames(a)),
+        Shown::Known(v, _) => Shown::Known(v, a),
     }
 }
 
@@ -194,8 +194,8 @@ fn plain(r: Reading) -> Shown
     }
 }
 
-// A spread number, complete at the frame of index `last`, its first frame then `age` slots old.
-fn spread(half: Half, i: u8, b: u8, last: u8, age: u32) -> Shown
+// A spread number, complete at the frame of index `last`, its first frame then of that age.
+fn spread(half: Half, i: u8, b: u8, last: u8, age: Frames) -> Shown
     ensures { λ r. ⌜ r ≡ spreadOf half i b last age ⌝ }
 {
     if i == last {
@@ -226,7 +226,7 @@ fn plain_cell(old: [Cell; 27], k: usize, frame: &[u8]) -> Cell
 }
 
 // Row k of a spread number after a whole frame.
-fn spread_cell(old: [Cell; 27], k: usize, half: Half, i: u8, b: u8, last: u8, age: u32) -> Cell
+fn spread_cell(old: [Cell; 27], k: usize, half: Half, i: u8, b: u8, last: u8, age: Frames) -> Cell
     ensures { λ r. ⌜ r ≡ cellAfter (spreadOf half i b last age) (getD old k blank) ⌝ }
 {
     next(spread(half, i, b, last, age), cell_at(old, k))
@@ -263,8 +263,8 @@ fn heard_cells(old: [Cell; 27], frame: &[u8], half: Half, i: u8, b: u8) -> [Cell
         plain_cell(old, 22, frame),
         plain_cell(old, 23, frame),
         plain_cell(old, 24, frame),
-        spread_cell(old, 25, half, i, b, 3, 3),
-        spread_cell(old, 26, half, i, b, 28, 1),
+        spread_cell(old, 25, half, i, b, 3, Frames(3)),
+        spread_cell(old, 26, half, i, b, 28, Frames(1)),
     ]
 }
 

@@ -1,6 +1,7 @@
 // What the desk shows of an item, as text: unknown, or a value with its age; and the items' names.
 // Keeps 01 "The 40-byte frame": the items, in the order of their rows.
 use super::print;
+use base::Frames;
 use desk::Desk;
 use desk::Shown;
 use frame::Item;
@@ -14,9 +15,9 @@ pub(crate) const LAST_CHECK: u32 = 22;
 
 pub(crate) const LONG_COUNTER: u32 = 25;
 
-fn say_age(age: u32) {
+fn say_age(age: Frames) {
     print::text(b" age ");
-    print::number(age as u64);
+    print::number(age.0 as u64);
 }
 
 pub(crate) fn say_byte(shown: Shown) {
@@ -25,7 +26,7 @@ pub(crate) fn say_byte(shown: Shown) {
         Shown::Known(v, age) => {
             print::text(b" ");
             print::byte((v % 256) as u8);
-            say_age(age.0);
+            say_age(age);
         }
     }
 }
@@ -36,7 +37,7 @@ pub(crate) fn say_long(shown: Shown) {
         Shown::Known(v, age) => {
             print::text(b" ");
             print::long(v);
-            say_age(age.0);
+            say_age(age);
         }
     }
 }
