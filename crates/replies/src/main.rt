@@ -3,9 +3,7 @@
 use libc::STDOUT_FILENO;
 use listing::Lister;
 
-const COUNT: usize = 67;
-
-const WORDS: [u16; COUNT] = [
+const WORDS: [u16; 67] = [
     0x2805, // relay off
     0x0822, // relay: both bits
     0x0800, // relay: neither bit
@@ -87,11 +85,11 @@ fn show(lister: Lister, word: u16, n: usize) -> Lister {
     listed.lister
 }
 
-fn show_all(lister: Lister) -> Lister {
+fn show_all(lister: Lister, words: &[u16]) -> Lister {
     let mut state = lister;
     let mut i: usize = 0;
-    while i < COUNT {
-        state = show(state, WORDS[i], 2);
+    while i < words.len() {
+        state = show(state, words[i], 2);
         i += 1;
     }
     state
@@ -103,8 +101,8 @@ fn main() {
     let len = opened.len;
     let start = opened.lister;
     io::write_all(STDOUT_FILENO, &page[..len]);
-    let words = show_all(start);
-    let odd = show(words, 0x0800, 1);
+    let all = show_all(start, &WORDS);
+    let odd = show(all, 0x0800, 1);
     let last = listing::finish(odd, &mut page);
     io::write_all(STDOUT_FILENO, &page[..last]);
 }

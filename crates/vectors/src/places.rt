@@ -63,12 +63,12 @@ fn place(bench: Bench, at: usize) -> Bench {
 // Room to spare, an exact fit, a byte too few, the end, past it, the largest place; and once more with room.
 const PLACES: [usize; 7] = [2, 4, 5, 44, 45, usize::MAX, 2];
 
-fn rooms() {
+fn rooms(places: &[usize]) {
     print::text(b"a buffer of 44 bytes AAh\n");
     let mut b = bench::fresh();
     let mut i: usize = 0;
-    while i < 7 {
-        b = place(b, PLACES[i]);
+    while i < places.len() {
+        b = place(b, places[i]);
         i += 1;
     }
 }
@@ -144,6 +144,6 @@ fn lengths() {
 }
 
 pub(crate) fn run() {
-    rooms();
+    rooms(&PLACES);
     lengths();
 }

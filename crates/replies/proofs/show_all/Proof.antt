@@ -1,16 +1,17 @@
 -- `replies::show_all` is safe and ends: the measure is the number of words that are left.
 -- Assumes nothing.
-use Prim.Native.Nat.{_-_, _≤_}
+use Prim.Native.Nat.{_-_}
 use native.Mathlib.Omega.{arith}
 use borrow.Author.Needs.{needs}
+use lib.ListN.{length}
 use Rattle.replies.proofs.show_all.Statement.{statement}
 use Rattle.replies.proofs.show_all.Tie as tie
 
 abbrev Inv-loop : tie.InvT-loop
-Inv-loop state₀ i₀ state i = i ≤ 67
+Inv-loop words state₀ i₀ state i = Unit
 
 abbrev μ-loop : tie.MeasureT-loop
-μ-loop state₀ i₀ state i = 67 - i
+μ-loop words state₀ i₀ state i = length words - i
 
 pub show-all-spec : {M : Type 1} → statement M
 show-all-spec =
@@ -18,11 +19,11 @@ show-all-spec =
     (tie.spec
     Inv-loop
     μ-loop
-    (λ c. omega arith)
     (λ c. search needs)
-    (λ c. omega arith)
-    (λ c κs. tt)
-    (λ c. omega arith)
-    (λ c. omega arith)
-    (λ c. omega arith)
-    (λ c. tt))
+    (λ c. search needs)
+    (λ c. search needs)
+    (λ c κs. search needs)
+    (λ c. search needs)
+    (λ c. search needs)
+    (λ c. search needs)
+    (λ c. search needs))

@@ -3,14 +3,15 @@
 use Prim.Native.Nat.{_-_}
 use native.Mathlib.Omega.{arith}
 use borrow.Author.Needs.{needs}
+use lib.ListN.{length}
 use Rattle.vectors.proofs.places.rooms.Statement.{statement}
 use Rattle.vectors.proofs.places.rooms.Tie as tie
 
 abbrev Inv-loop : tie.InvT-loop
-Inv-loop b₀ i₀ b i = Unit
+Inv-loop places b₀ i₀ b i = Unit
 
 abbrev μ-loop : tie.MeasureT-loop
-μ-loop b₀ i₀ b i = 7 - i
+μ-loop places b₀ i₀ b i = length places - i
 
 pub rooms-spec : {M : Type 1} → statement M
 rooms-spec =
