@@ -242,7 +242,7 @@ fn bm1_seen(b: &[u8]) -> Seen
 }
 
 // What a block is, or the first of 20 (under 3 bytes), 19, 20, 21 that it is refused with.
-fn look(b: &[u8]) -> Seen
+fn sort_of(b: &[u8]) -> Seen
     ensures { λ r. ⌜ layoutBy r ≡ layoutOf (now (b .entry)) ⌝ }
 {
     if b.len() < 3 {
@@ -257,10 +257,11 @@ fn look(b: &[u8]) -> Seen
     Seen(Sort::NoMarker, 0, 0)
 }
 
+// What a block is, with its two content descriptors; or the refusal.
 pub fn layout_of(b: &[u8]) -> Layout
     ensures { λ r. ⌜ r ≡ layoutOf (now (b .entry)) ⌝ }
 {
-    let s = look(b);
+    let s = sort_of(b);
     let sort = s.0;
     match sort {
         Sort::Nm => Layout::Nm(s.1, s.2),
@@ -315,7 +316,7 @@ fn found_at(row: Row, group: Group, d1: u8, d2: u8) -> Located
 pub fn locate(b: &[u8], part: Part) -> Located
     ensures { λ r. ⌜ r ≡ locateOf (now (b .entry)) part ⌝ }
 {
-    let s = look(b);
+    let s = sort_of(b);
     let sort = s.0;
     match sort {
         Sort::Nm => found_at(nm_row(part), group_of(part), s.1, s.2),

@@ -1,4 +1,4 @@
--- `block::look` meets its contract: the length that a marker needs, then the two markers; the rest is each kind's own.
+-- `block::sort_of` meets its contract: the length that a marker needs, then the two markers; the rest is each kind's own.
 -- Assumes nothing.
 use mathlib.Core.Path.{_≡_, sym, _∙_}
 use mathlib.Core.Bool.{false}
@@ -9,8 +9,8 @@ use borrow.Author.Needs.{needs}
 use borrow.Author.Tests.{lt-ltb, le-ltb}
 use Rattle.block.specs.Layout.{nm, layoutOf}
 use Rattle.block.specs.Steps.{nmOf, bm1Of}
-use Rattle.block.proofs.look.Statement.{statement}
-use Rattle.block.proofs.look.Tie as tie
+use Rattle.block.proofs.sort_of.Statement.{statement}
+use Rattle.block.proofs.sort_of.Tie as tie
 
 -- what the first two tests showed
 long : (c : tie.Else1) → ltb (length (now (c .before .before .args .b))) 3 ≡ false
@@ -45,8 +45,8 @@ returns-4 c =
     simp
     (long (c .before .before .before .before), other (c .before .before), sym (c .before .is-marker2 .ensures) ∙ c .if3 .left)
 
-pub look-spec : {M : Type 1} → statement M
-look-spec =
+pub sort-of-spec : {M : Type 1} → statement M
+sort-of-spec =
     tie.close
     (tie.spec
     returns
