@@ -1,0 +1,322 @@
+//! The rig: command words in, frames out. From the scope paper's "Command words", "Spins and power" and "The 40-byte frame".
+//! State is changed in place; a refusal is the paper's number.
+
+use crate::crc::check_of;
+
+/// The kinds of a word.
+const SINGLE: u8 = 0;
+const HEAD: u8 = 1;
+const DATA: u8 = 2;
+const END: u8 = 3;
+
+#[derive(Clone, Copy)]
+pub enum Answer {
+    Accepted,
+    Waiting,
+    Refused(u8),
+}
+
+#[derive(Clone, Copy)]
+pub enum Reply {
+    Plain(Answer),
+    /// The block was dropped, 03h, and the word with it.
+    Swallowed,
+    /// The block was dropped, 03h; then the word was judged afresh.
+    Dropped(Answer),
+}
+
+#[derive(Default)]
+struct Supply {
+    relay: bool,
+    stepping: bool,
+    level: u8,
+    target: u8,
+    limit: u8,
+}
+
+#[derive(Clone, Copy, Default)]
+struct Window {
+    start: u8,
+    stop: u8,
+}
+
+impl Window {
+    fn of(start: u8, stop: u8) -> Window {
+        Window {
+            start: start & 0x1F,
+            stop: stop & 0x1F,
+        }
+    }
+}
+
+/// A block that waits: its head's high byte, how many data words it is to have, how many came, and their low bytes.
+struct Pending {
+    head: u8,
+    n: u8,
+    got: u8,
+    bytes: [u8; 79],
+}
+
+pub struct Rig {
+    supply: Supply,
+    parallel: bool,
+    head_mask: u8,
+    iel_clock: bool,
+    iel_enable: bool,
+    multiplexers: (u8, bool),
+    direction: Window,
+    energy: Window,
+    pending: Option<Pending>,
+    last_check: u8,
+    pub error: u8,
+    pub last_invalid: u8,
+    pub invalid_count: u8,
+    pub bias: u8,
+    pub ground: u8,
+    pub free_time: u16,
+    pub flaps: [bool; 3],
+    long_counter: u32,
+    /// The index of the next frame.
+    next: u8,
+    /// The number that is going out spread over frames, as it was when its first was built.
+    latch: u32,
+}
+
+impl Rig {
+    /// The start, to which a power cut returns.
+    pub fn start() -> Rig {
+        Rig {
+            supply: Supply::default(),
+            parallel: false,
+            head_mask: 7,
+            iel_clock: false,
+            iel_enable: false,
+            multiplexers: (0, false),
+            direction: Window::default(),
+            energy: Window::default(),
+            pending: None,
+            last_check: 0,
+            error: 0,
+            last_invalid: 0xFF,
+            invalid_count: 0,
+            bias: 0,
+            ground: 0,
+            free_time: 0,
+            flaps: [false; 3],
+            long_counter: 0,
+            next: 0,
+            latch: 0,
+        }
+    }
+
+    pub fn level(&self) -> u8 {
+        self.supply.level
+    }
+
+    pub fn long_counter(&self) -> u32 {
+        self.long_counter
+    }
+
+    pub fn spin(&mut self) {
+        let s = &mut self.supply;
+        if s.relay && s.stepping {
+            if s.level < s.target {
+                s.level += 1;
+            } else if s.level > s.target {
+                s.level -= 1;
+            }
+        }
+        self.long_counter = self.long_counter.wrapping_add(1);
+    }
+
+    pub fn take(&mut self, word: u16) -> Reply {
+        let [high, low] = word.to_be_bytes();
+        let Some(block) = &mut self.pending else {
+            return Reply::Plain(self.judge(high, low));
+        };
+        let kind = high >> 6;
+        let same = high & 0x3F == block.head & 0x3F;
+        if kind == DATA && same && block.got < block.n {
+            block.bytes[usize::from(block.got)] = low;
+            block.got += 1;
+            return Reply::Plain(Answer::Waiting);
+        }
+        let full = block.got == block.n;
+        let block = self.pending.take().unwrap();
+        if kind == END && same && full {
+            return Reply::Plain(self.close(block, low));
+        }
+        self.refuse(block.head, 0x03);
+        if kind == DATA || kind == END {
+            return Reply::Swallowed;
+        }
+        Reply::Dropped(self.judge(high, low))
+    }
+
+    /// A word with nothing pending.
+    fn judge(&mut self, high: u8, low: u8) -> Answer {
+        match high >> 6 {
+            SINGLE => {
+                let result = self.single(high & 0x3F, low);
+                self.settle(high, result)
+            }
+            HEAD if low > 79 => self.settle(high, Err(0x0E)),
+            HEAD => {
+                self.pending = Some(Pending {
+                    head: high,
+                    n: low,
+                    got: 0,
+                    bytes: [0; 79],
+                });
+                Answer::Waiting
+            }
+            _ => self.settle(high, Err(0x0B)),
+        }
+    }
+
+    /// The end word of a block that has all its data words.
+    fn close(&mut self, block: Pending, check: u8) -> Answer {
+        let data = &block.bytes[..usize::from(block.n)];
+        self.last_check = check_of(data);
+        let result = if self.last_check == check {
+            self.block(block.head & 0x3F, data)
+        } else {
+            Err(0x0B)
+        };
+        self.settle(block.head, result)
+    }
+
+    fn settle(&mut self, high: u8, result: Result<(), u8>) -> Answer {
+        match result {
+            Ok(()) => Answer::Accepted,
+            Err(number) => {
+                self.refuse(high, number);
+                Answer::Refused(number)
+            }
+        }
+    }
+
+    fn refuse(&mut self, high: u8, number: u8) {
+        self.error = number;
+        self.last_invalid = high;
+        self.invalid_count = self.invalid_count.wrapping_add(1);
+    }
+
+    fn single(&mut self, code: u8, low: u8) -> Result<(), u8> {
+        let s = &mut self.supply;
+        match code {
+            0x08 => match (low & 0x02 != 0, low & 0x20 != 0) {
+                (true, false) => s.relay = true,
+                (false, true) => {
+                    s.relay = false;
+                    s.level = 0;
+                    s.target = 0;
+                }
+                _ => return Err(0x0B),
+            },
+            0x0C => {
+                self.iel_clock = low & 0x01 != 0;
+                self.iel_enable = low & 0x02 != 0;
+            }
+            0x26 => self.head_mask = low & 0x07,
+            0x28 => {
+                let target = low & 0x0F;
+                if !s.relay {
+                    return Err(0x04);
+                }
+                if !s.stepping {
+                    return Err(0x05);
+                }
+                if target > s.limit {
+                    return Err(0x06);
+                }
+                s.target = target;
+            }
+            0x29 => {
+                // A limit over 15 is 0Dh, but four bits never are.
+                if s.level != s.target {
+                    return Err(0x0C);
+                }
+                s.limit = low & 0x0F;
+                s.target = s.target.min(s.limit);
+            }
+            0x2B => self.parallel = switch(low)?,
+            0x2D => s.stepping = switch(low)?,
+            _ => return Err(0x0F),
+        }
+        Ok(())
+    }
+
+    fn block(&mut self, code: u8, data: &[u8]) -> Result<(), u8> {
+        if !matches!(code, 0x20 | 0x23 | 0x24) {
+            return Err(0x0F);
+        }
+        let &[first, second] = data else {
+            return Err(0x0E);
+        };
+        match code {
+            0x20 => self.multiplexers = (first, second & 0x01 != 0),
+            0x23 => self.direction = Window::of(first, second),
+            _ => self.energy = Window::of(first, second),
+        }
+        Ok(())
+    }
+
+    /// The next frame, written at a place of the caller's buffer.
+    pub fn build(&mut self, buf: &mut [u8], at: usize) -> Result<(), u8> {
+        let rest = buf.get_mut(at..).ok_or(18)?;
+        let f = rest.first_chunk_mut::<40>().ok_or(18)?;
+        let i = self.next;
+        match i {
+            0 => self.latch = self.long_counter,
+            27 => self.latch = u32::from(self.free_time),
+            _ => {}
+        }
+        let s = &self.supply;
+        *f = [0; 40];
+        f[0] = i;
+        f[1] = u8::from(self.parallel) << 6;
+        f[2] = u8::from(s.relay) << 6;
+        f[6] = self.multiplexers.0 & 0x49;
+        f[7] = self.error << 4;
+        f[8] = self.direction.stop >> 1;
+        f[9] = self.direction.stop << 7 | self.direction.start << 2 | self.energy.stop >> 3;
+        f[10] = self.energy.stop << 5 | self.energy.start;
+        f[16] = self.last_invalid;
+        f[19] = u8::from(self.iel_enable) << 7;
+        f[20] = self.long_counter.wrapping_sub(1) as u8 & 0x3F;
+        f[36] = self.bias;
+        f[37] = match i % 4 {
+            0 => u8::from(s.stepping) << 4,
+            2 => s.limit << 4,
+            3 => s.level << 4,
+            _ => 0,
+        };
+        if i % 8 == 0 {
+            f[38] = self.ground;
+        }
+        f[39] = match i {
+            0..=3 => self.latch.to_be_bytes()[usize::from(i)],
+            12 => {
+                let [one, two, three] = self.flaps.map(u8::from);
+                one << 4 | two << 5 | three << 6 | u8::from(self.iel_clock) << 7
+            }
+            21 => self.last_check,
+            22 => self.invalid_count,
+            27 => (self.latch >> 8) as u8,
+            28 => self.latch as u8,
+            31 => self.head_mask << 4,
+            _ => 0,
+        };
+        self.next = (i + 1) % 32;
+        Ok(())
+    }
+}
+
+fn switch(low: u8) -> Result<bool, u8> {
+    match low {
+        0 => Ok(false),
+        1 => Ok(true),
+        _ => Err(0x0D),
+    }
+}
