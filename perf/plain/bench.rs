@@ -167,7 +167,7 @@ fn words(input: &[u8], _out: &mut [u8], n: usize) -> u64 {
         match answer {
             Answer::Accepted => 1,
             Answer::Waiting => 2,
-            Answer::Refused(why) => 16 + u64::from(why),
+            Answer::Refused(why) => 16 + why as u64,
         }
     }
     let mut rig = Rig::start();

@@ -13,7 +13,7 @@ fn list(out: &mut impl Write, word: u16, answer: Answer) -> io::Result<()> {
     match answer {
         Answer::Accepted => writeln!(out, "{word:04X} accepted"),
         Answer::Waiting => writeln!(out, "{word:04X} waiting"),
-        Answer::Refused(number) => writeln!(out, "{word:04X} refused {number:02X}"),
+        Answer::Refused(why) => writeln!(out, "{word:04X} refused {:02X}", why as u8),
     }
 }
 

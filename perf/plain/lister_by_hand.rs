@@ -23,9 +23,9 @@ fn list(out: &mut Vec<u8>, [high, low]: [u8; 2], answer: Answer) {
     match answer {
         Answer::Accepted => out.extend_from_slice(b" accepted\n"),
         Answer::Waiting => out.extend_from_slice(b" waiting\n"),
-        Answer::Refused(number) => {
+        Answer::Refused(why) => {
             out.extend_from_slice(b" refused ");
-            hex(out, number);
+            hex(out, why as u8);
             out.push(b'\n');
         }
     }

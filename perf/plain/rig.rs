@@ -1,5 +1,5 @@
 //! The rig: command words in, frames out. From the scope paper's "Command words", "Spins and power" and "The 40-byte frame".
-//! State is changed in place; a refusal is the paper's number.
+//! State is changed in place.
 
 use crate::crc::check_of;
 
@@ -9,11 +9,27 @@ const HEAD: u8 = 1;
 const DATA: u8 = 2;
 const END: u8 = 3;
 
+/// Why a word is refused, with the paper's number.
+#[derive(Clone, Copy)]
+#[repr(u8)]
+pub enum Refusal {
+    BlockDropped = 0x03,
+    RelayOff = 0x04,
+    SteppingOff = 0x05,
+    OverLimit = 0x06,
+    /// A stray data or end word, a wrong check, or relay bits that say both or neither.
+    Malformed = 0x0B,
+    StillStepping = 0x0C,
+    OutOfRange = 0x0D,
+    WrongCount = 0x0E,
+    UnknownCode = 0x0F,
+}
+
 #[derive(Clone, Copy)]
 pub enum Answer {
     Accepted,
     Waiting,
-    Refused(u8),
+    Refused(Refusal),
 }
 
 #[derive(Clone, Copy)]
@@ -146,7 +162,7 @@ impl Rig {
         if kind == END && same && full {
             return Reply::Plain(self.close(block, low));
         }
-        self.refuse(block.head, 0x03);
+        self.refuse(block.head, Refusal::BlockDropped);
         if kind == DATA || kind == END {
             return Reply::Swallowed;
         }
@@ -160,7 +176,7 @@ impl Rig {
                 let result = self.single(high & 0x3F, low);
                 self.settle(high, result)
             }
-            HEAD if low > 79 => self.settle(high, Err(0x0E)),
+            HEAD if low > 79 => self.settle(high, Err(Refusal::WrongCount)),
             HEAD => {
                 self.pending = Some(Pending {
                     head: high,
@@ -170,7 +186,7 @@ impl Rig {
                 });
                 Answer::Waiting
             }
-            _ => self.settle(high, Err(0x0B)),
+            _ => self.settle(high, Err(Refusal::Malformed)),
         }
     }
 
@@ -181,28 +197,28 @@ impl Rig {
         let result = if self.last_check == check {
             self.block(block.head & 0x3F, data)
         } else {
-            Err(0x0B)
+            Err(Refusal::Malformed)
         };
         self.settle(block.head, result)
     }
 
-    fn settle(&mut self, high: u8, result: Result<(), u8>) -> Answer {
+    fn settle(&mut self, high: u8, result: Result<(), Refusal>) -> Answer {
         match result {
             Ok(()) => Answer::Accepted,
-            Err(number) => {
-                self.refuse(high, number);
-                Answer::Refused(number)
+            Err(why) => {
+                self.refuse(high, why);
+                Answer::Refused(why)
             }
         }
     }
 
-    fn refuse(&mut self, high: u8, number: u8) {
-        self.error = number;
+    fn refuse(&mut self, high: u8, why: Refusal) {
+        self.error = why as u8;
         self.last_invalid = high;
         self.invalid_count = self.invalid_count.wrapping_add(1);
     }
 
-    fn single(&mut self, code: u8, low: u8) -> Result<(), u8> {
+    fn single(&mut self, code: u8, low: u8) -> Result<(), Refusal> {
         let s = &mut self.supply;
         match code {
             0x08 => match (low & 0x02 != 0, low & 0x20 != 0) {
@@ -212,7 +228,7 @@ impl Rig {
                     s.level = 0;
                     s.target = 0;
                 }
-                _ => return Err(0x0B),
+                _ => return Err(Refusal::Malformed),
             },
             0x0C => {
                 self.iel_clock = low & 0x01 != 0;
@@ -222,37 +238,37 @@ impl Rig {
             0x28 => {
                 let target = low & 0x0F;
                 if !s.relay {
-                    return Err(0x04);
+                    return Err(Refusal::RelayOff);
                 }
                 if !s.stepping {
-                    return Err(0x05);
+                    return Err(Refusal::SteppingOff);
                 }
                 if target > s.limit {
-                    return Err(0x06);
+                    return Err(Refusal::OverLimit);
                 }
                 s.target = target;
             }
             0x29 => {
                 // A limit over 15 is 0Dh, but four bits never are.
                 if s.level != s.target {
-                    return Err(0x0C);
+                    return Err(Refusal::StillStepping);
                 }
                 s.limit = low & 0x0F;
                 s.target = s.target.min(s.limit);
             }
             0x2B => self.parallel = switch(low)?,
             0x2D => s.stepping = switch(low)?,
-            _ => return Err(0x0F),
+            _ => return Err(Refusal::UnknownCode),
         }
         Ok(())
     }
 
-    fn block(&mut self, code: u8, data: &[u8]) -> Result<(), u8> {
+    fn block(&mut self, code: u8, data: &[u8]) -> Result<(), Refusal> {
         if !matches!(code, 0x20 | 0x23 | 0x24) {
-            return Err(0x0F);
+            return Err(Refusal::UnknownCode);
         }
         let &[first, second] = data else {
-            return Err(0x0E);
+            return Err(Refusal::WrongCount);
         };
         match code {
             0x20 => self.multiplexers = (first, second & 0x01 != 0),
@@ -313,10 +329,10 @@ impl Rig {
     }
 }
 
-fn switch(low: u8) -> Result<bool, u8> {
+fn switch(low: u8) -> Result<bool, Refusal> {
     match low {
         0 => Ok(false),
         1 => Ok(true),
-        _ => Err(0x0D),
+        _ => Err(Refusal::OutOfRange),
     }
 }

@@ -57,6 +57,7 @@ pub struct Sending {
     pub next: u8,
 }
 
+// The widest fields first, here and in the two records above: padding between them would be copied with the rig at every word.
 pub struct Rig {
     pub edbs: Spins,
     pub sending: Sending,
