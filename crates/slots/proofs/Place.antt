@@ -1,6 +1,6 @@
 -- Where the frame stands in the caller's buffer once it is built.
 -- Assumes nothing.
-use mathlib.Core.Path.{_≡_, ap, _∙_}
+use mathlib.Core.Path.{_≡_, ap, sym, _∙_}
 use mathlib.Core.List.{List, _++_}
 use Prim.Native.Nat.{ℕ, _+_, _-_, _≤_}
 use native.Mathlib.Omega.{arith}
@@ -20,7 +20,7 @@ use Rattle.desk.specs.Desk.{slotOf}
 use Rattle.bench.specs.declared.Bench.{Bench}
 use Rattle.bench.specs.Bench.{withRig, withDesk}
 use Rattle.slots.specs.declared.Sent.{Sent}
-use Rattle.slots.specs.Slots.{builtBench, handedOf, heardIf, arrivedBench}
+use Rattle.slots.specs.Slots.{builtBench, handedOf, missedBench, heardIf, arrivedBench, missedIf}
 
 -- a frame that was written had room
 pub had-room : (at : ℕ) (s : List ℕ) → wroteOf at s ≡ Done → at + 40 ≤ length s
@@ -59,7 +59,12 @@ handed-on b s at e =
     part (filledOf (b .rig) s at) at ∙ stands (b .rig) s at (had-room at s e) in
     ap (λ (x : List ℕ). sentFrom b s at x) f ∙ done (wroteOf at s) b e
 
--- where nothing was written, nothing was handed on
-pub refused : (x : Wrote) (b : Bench) (why : Refusal) → x ≡ Refused why
-    → _≡_ {A = Sent} (record { bench = withRig b (sentWith x (b .rig) (nextLatch (b .rig))); wrote = x }) (record { bench = heardIf x b; wrote = x })
-refused x b why e = rw e
+-- a frame built whose slot is then marked missed
+pub lost-on : (x : Wrote) (b : Bench) → x ≡ Done
+    → _≡_ {A = Sent} (record { bench = missedBench (withRig b (sentWith x (b .rig) (nextLatch (b .rig)))); wrote = x }) (record { bench = missedIf x b; wrote = x })
+lost-on x b e = rw e
+
+-- where nothing was written, no slot passes: neither a whole one nor a missed one
+pub refused : (by : Wrote → Bench → Bench) (x : Wrote) (b : Bench) (why : Refusal) → by (Refused why) b ≡ b → x ≡ Refused why
+    → _≡_ {A = Sent} (record { bench = withRig b (sentWith x (b .rig) (nextLatch (b .rig))); wrote = x }) (record { bench = by x b; wrote = x })
+refused by x b why same e = rw e (ap (λ (c : Bench). record { bench = c; wrote = Refused why }) (sym same))

@@ -15,6 +15,8 @@ use Rattle.slots.proofs.hand.Reads as hand
 use Rattle.slots.proofs.miss.Reads as miss
 use Rattle.slots.proofs.arrives.Kinds as arrives-kinds
 use Rattle.slots.proofs.arrives.Reads as arrives
+use Rattle.slots.proofs.lost.Kinds as lost-kinds
+use Rattle.slots.proofs.lost.Reads as lost
 
 pub miss-one : (b : Bench) (r q : Bench) → miss.Post tt (b, tt) r (b, tt) → miss.Post tt (b, tt) q (b, tt) → r ≡ q
 miss-one b r q m n = same m n
@@ -32,3 +34,7 @@ module _ (κs : Lfts 1) where
   pub arrives-one : (a : Dens κs arrives-kinds.ps) (e f : AtExit (endedOf 1 arrives-kinds.ps arrives-kinds.r) κs) (r q : Sent)
       → arrives.Post κs a r e → arrives.Post κs a q f → (r ≡ q) × (e .1 .0 .now ≡ f .1 .0 .now)
   arrives-one a e f r q m n = (same (m .0) (n .0), same (m .1) (n .1))
+
+  pub lost-one : (a : Dens κs lost-kinds.ps) (e f : AtExit (endedOf 1 lost-kinds.ps lost-kinds.r) κs) (r q : Sent)
+      → lost.Post κs a r e → lost.Post κs a q f → (r ≡ q) × (e .1 .0 .now ≡ f .1 .0 .now)
+  lost-one a e f r q m n = (same (m .0) (n .0), same (m .1) (n .1))

@@ -32,3 +32,12 @@ heardIf (Refused why) b = b
 -- the next frame built at a place of the buffer s and handed on whole
 abbrev pub arrivedBench : Bench → List ℕ → ℕ → Sent
 arrivedBench b s at = record { bench = heardIf (wroteOf at s) b; wrote = wroteOf at s }
+
+-- once the frame is written, its slot is marked missed; where there was no room (18), nothing happens and no slot passes
+abbrev pub missedIf : Wrote → Bench → Bench
+missedIf Done b = record { rig = sent (b .rig); desk = missedOf (b .desk) }
+missedIf (Refused why) b = b
+
+-- the next frame built at a place of the buffer s, and lost
+abbrev pub lostBench : Bench → List ℕ → ℕ → Sent
+lostBench b s at = record { bench = missedIf (wroteOf at s) b; wrote = wroteOf at s }

@@ -1,8 +1,8 @@
-// The slots between rig and desk: a frame built, bytes handed to the desk, a slot missed; and a frame built and handed on whole.
+// The slots between rig and desk: a frame built, bytes handed to the desk, a slot missed; and a frame built and handed on whole, or lost.
 // Keeps 01 "The 40-byte frame"; the demands are said of these functions' definitions.
 ghost use mathlib.Core.Path.{_≡_};
 ghost use Rattle.sending.specs.Sending.{filledOf};
-ghost use Rattle.slots.specs.Slots.{builtBench, handedOf, missedBench, arrivedBench};
+ghost use Rattle.slots.specs.Slots.{builtBench, handedOf, missedBench, arrivedBench, lostBench};
 use bench::Bench;
 use desk::Answer;
 use frame::Wrote;
@@ -72,6 +72,25 @@ pub fn arrives(bench: Bench, buf: &mut [u8], at: usize) -> Sent
             let h = hand(after, &buf[at..end]);
             let next = h.bench;
             Sent { bench: next, wrote }
+        }
+        Wrote::Refused(_) => Sent {
+            bench: after,
+            wrote,
+        },
+    }
+}
+
+// The next frame is built at a place of the caller's buffer, and its slot is marked missed. Where there is no room (18) no slot passes.
+pub fn lost(bench: Bench, buf: &mut [u8], at: usize) -> Sent
+    ensures { λ r. ⌜ (r ≡ lostBench bench (now (buf .entry)) at) × (now (buf .exit) ≡ filledOf (bench .rig) (now (buf .entry)) at) ⌝ }
+{
+    let sent = build(bench, buf, at);
+    let wrote = sent.wrote;
+    let after = sent.bench;
+    match wrote {
+        Wrote::Done => {
+            let gone = miss(after);
+            Sent { bench: gone, wrote }
         }
         Wrote::Refused(_) => Sent {
             bench: after,

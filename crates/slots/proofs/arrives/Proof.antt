@@ -1,6 +1,6 @@
 -- `slots::arrives` meets its contract: a written frame had room, stands at the named place, and is what the desk is handed.
 -- Assumes nothing.
-use mathlib.Core.Path.{_≡_, sym, ap, _∙_}
+use mathlib.Core.Path.{_≡_, refl, sym, ap, _∙_}
 use Prim.Native.Nat.{_+_, _≤_}
 use native.Mathlib.Omega.{arith}
 use borrow.Author.Needs.{needs}
@@ -9,6 +9,7 @@ use denote.Ref.{now}
 use Rattle.frame.specs.declared.Wrote.the-variants.{Done}
 use Rattle.frame.specs.Write.{wroteOf}
 use Rattle.slots.specs.declared.Sent.{Sent}
+use Rattle.slots.specs.Slots.{heardIf}
 use Rattle.slots.proofs.Place.{had-room, handed-on, refused}
 use Rattle.slots.proofs.arrives.Statement.{statement}
 use Rattle.slots.proofs.arrives.Tie as tie
@@ -41,7 +42,7 @@ returns-2 c =
     let s = now (c .before .before .before .before .before .before .before .before .args .buf) in
     let at = c .before .before .before .before .before .before .before .before .args .at in
     let b = c .before .before .before .before .before .build in
-    (simp (b .ensures .0) (refused (wroteOf at s) (c .before .before .before .before .before .before .before .before .args .bench) (c .enum-told2 .given .0 .0) (sym (ap (λ (x : Sent). x .wrote) (b .ensures .0)) ∙ c .enum-told2 .given .1)), b .ensures .1)
+    (simp (b .ensures .0) (refused heardIf (wroteOf at s) (c .before .before .before .before .before .before .before .before .args .bench) (c .enum-told2 .given .0 .0) refl (sym (ap (λ (x : Sent). x .wrote) (b .ensures .0)) ∙ c .enum-told2 .given .1)), b .ensures .1)
 
 pub arrives-spec : {M : Type 1} → statement M
 arrives-spec =
