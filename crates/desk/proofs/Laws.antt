@@ -10,6 +10,7 @@ use Rattle.frame.specs.Items.{numbered}
 use Rattle.frame.specs.Write.{frameOf}
 use Rattle.frame.specs.Read.{arrivedOf, allAre}
 use Rattle.frame.specs.Laws.{Alike}
+use Rattle.frame.proofs.Came.{no-other}
 use Rattle.frame.proofs.Tells.{whole}
 use Rattle.desk.specs.declared.Answer.the-variants.{Heard, Missed, Refused}
 use Rattle.desk.specs.declared.Desk.{Desk}
@@ -45,6 +46,7 @@ laws =
       refused = refused;
       fill-C0 = fill-C0;
       fill-FF = fill-FF;
+      whole = λ d f l a b. heard-whole d f _ _ (no-other f l a b);
       built = λ d h i l. heard-whole d (frameOf h i l) _ _ (whole h i l);
       unread = unread;
       at-miss = λ d k h. at-slot nothing (d .cells) k h tt;

@@ -25,6 +25,8 @@ pub record Laws : Type 0 where
   -- 40 equal bytes C0h or FFh are a miss
   pub fill-C0 : (d : Desk) → slotOf d (replicate 40 0xC0) ≡ answered Missed (missedOf d)
   pub fill-FF : (d : Desk) → slotOf d (replicate 40 0xFF) ≡ answered Missed (missedOf d)
+  -- all other 40 bytes are heard, whoever built them
+  pub whole : (d : Desk) (f : List ℕ) → length f ≡ 40 → (f ≡ replicate 40 0xC0 → ⊥) → (f ≡ replicate 40 0xFF → ⊥) → slotOf d f ≡ answered Heard (heardOf d f)
   -- every frame that a rig builds is heard
   pub built : (d : Desk) (h : Held) (i l : ℕ) → slotOf d (frameOf h i l) ≡ answered Heard (heardOf d (frameOf h i l))
   -- of two whole frames that differ in unread bits alone the desk makes the same

@@ -1,6 +1,6 @@
 -- The laws of the frame hold.
 -- Assumes nothing.
-use mathlib.Core.Path.{_≡_, ap, _∙_}
+use mathlib.Core.Path.{_≡_, refl, ap, _∙_}
 use mathlib.Core.Bool.{true, false}
 use Prim.Native.Nat.{ℕ, _%_, _<_}
 use native.Mathlib.Nat.{mod-eq-of-lt}
@@ -14,8 +14,10 @@ use Rattle.frame.specs.Write.{frameOf}
 use Rattle.frame.specs.Read.{remOf, phaseOf, carries, indexOf, readOf}
 use Rattle.frame.specs.Laws.{Fits, Laws}
 use Rattle.frame.proofs.Rows.{rounds}
+use Rattle.frame.proofs.Came.{no-other}
 use Rattle.frame.proofs.Back.{field-back}
 use Rattle.frame.proofs.Tells.{hides, long-is, free-is, unlatched, stays, whole, no-fill}
+use Rattle.frame.proofs.Zeros.{zeros, masked}
 use Rattle.frame.proofs.Unread.{index-same, read-same, spread-same}
 
 module _ (h : Held) (i l k : ℕ) (b : k < 25) where
@@ -49,8 +51,12 @@ laws =
       free = free-is;
       unlatched = unlatched;
       stays = stays;
+      no-other = no-other;
       whole = whole;
       no-fill = no-fill;
       unread = λ f g a k. (index-same f g a, read-same f g a k);
       unread-spread = spread-same;
+      zeros = λ h i l b k f. zeros h i l f b k;
+      masked = masked;
+      numbers = (refl, refl);
     }

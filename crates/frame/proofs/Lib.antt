@@ -6,6 +6,7 @@ pub mod Each
 pub mod Back
 pub mod Tells
 pub mod Unread
+pub mod Zeros
 pub mod Laws
 pub mod Single
 pub mod Examples

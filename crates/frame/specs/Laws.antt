@@ -1,19 +1,20 @@
 -- What is true of every frame (01, "The 40-byte frame"), said once over the rows: what is written is what is read, and nothing else is told.
 -- The bytes (`frameOf`) and the table (`rows`) are written apart; these laws tie them. Assumes nothing.
 use mathlib.Core.Path.{_≡_}
-use mathlib.Core.Bool.{Bool, true, false}
+use mathlib.Core.Bool.{Bool, true, false, _&&_}
 use mathlib.Core.List.{List, [], _∷_}
-use Prim.Native.Nat.{ℕ, _+_, _*_, _%_, _^_, _<_}
+use Prim.Native.Nat.{ℕ, _+_, _-_, _*_, _/_, _%_, _^_, _<_}
 use lib.Bits.{bitAnd}
-use lib.Dec.{eqb, ltb}
+use lib.Dec.{eqb, leb, ltb}
 use lib.ListN.{length, getD, replicate}
 use Rattle.base.specs.Pick.{pick}
 use Rattle.frame.specs.declared.Held.{Held}
 use Rattle.frame.specs.declared.Arrived.the-variants.{Whole}
 use Rattle.frame.specs.declared.Reading.the-variants.{Nothing, Value}
-use Rattle.frame.specs.Items.{heldAt}
+use Rattle.frame.specs.declared.Refusal.the-variants.{NotForty, NoRoom}
+use Rattle.frame.specs.Items.{heldAt, numberOf}
 use Rattle.frame.specs.Write.{latchOf, frameOf}
-use Rattle.frame.specs.Read.{remOf, carries, indexOf, readOf, arrivedOf}
+use Rattle.frame.specs.Read.{Row, rows, remOf, carries, indexOf, readOf, arrivedOf}
 
 abbrev pub byte39 : List ℕ → ℕ
 byte39 f = getD f 39 0
@@ -43,6 +44,21 @@ masks i =
     ∷ 0xFF ∷ 0 ∷ 0 ∷ 0 ∷ 0 ∷ 0 ∷ 0xFF ∷ 0 ∷ 0 ∷ 0x80  -- 10-19
     ∷ 0x3F ∷ 0 ∷ 0 ∷ 0 ∷ 0 ∷ 0 ∷ 0 ∷ 0 ∷ 0 ∷ 0  -- 20-29
     ∷ 0 ∷ 0 ∷ 0 ∷ 0 ∷ 0 ∷ 0 ∷ 0xFF ∷ mask37 i ∷ mask38 i ∷ mask39 i ∷ []  -- 30-39
+
+-- The bits that a row takes of byte b: its item is `rem - 1` at most, times `div`, in the word of bytes `byte` and `byte + 1`.
+abbrev pub bitsAt : Row → ℕ → ℕ
+bitsAt r b =
+    pick (eqb b (r .byte)) ((r .rem - 1) * r .div / 256)
+    (pick (eqb b (r .byte + 1)) ((r .rem - 1) * r .div % 256) 0)
+
+-- does the frame of index i hold a byte of the row's item: the one that brings it, or one of the `born` before it?
+abbrev pub holdsIt : Row → ℕ → Bool
+holdsIt r i = leb (r .phase - r .born) (i % r .period) && leb (i % r .period) (r .phase)
+
+-- the bits of byte b of the frame of index i that some row takes, and in byte 0 the index
+abbrev pub taken : List Row → ℕ → ℕ → ℕ
+taken [] i b = pick (eqb b 0) 0x1F 0
+taken (r ∷ rs) i b = pick (holdsIt r i) (bitsAt r b) 0 + taken rs i b
 
 -- each item is within its width
 pub record Fits (h : Held) : Type 0 where
@@ -79,9 +95,17 @@ pub record Laws : Type 0 where
   -- at every other index no byte depends on the latch; only 0 and 27 set it
   pub unlatched : (h : Held) (i l m : ℕ) → spreads (i % 32) ≡ false → frameOf h i l ≡ frameOf h i m
   pub stays : (h : Held) (i l : ℕ) → (i % 32 ≡ 0 → ⊥) → (i % 32 ≡ 27 → ⊥) → latchOf h i l ≡ l
+  -- 40 bytes that are neither fill are a whole frame, whoever built it
+  pub no-other : (f : List ℕ) → length f ≡ 40 → (f ≡ replicate 40 0xC0 → ⊥) → (f ≡ replicate 40 0xFF → ⊥) → arrivedOf f ≡ Whole (indexOf f) (byte39 f)
   -- a built frame arrives whole, and is never 40 equal bytes, but for 0
   pub whole : (h : Held) (i l : ℕ) → arrivedOf (frameOf h i l) ≡ Whole (i % 32) (byte39 (frameOf h i l))
   pub no-fill : (h : Held) (i l x : ℕ) → 0 < x → frameOf h i l ≡ replicate 40 x → ⊥
   -- bits that 01 does not name are not read
   pub unread : (f g : List ℕ) → Alike f g → (k : ℕ) → (indexOf f ≡ indexOf g) × (readOf f k ≡ readOf g k)
   pub unread-spread : (f g : List ℕ) → Alike f g → spreads (indexOf f) ≡ true → byte39 f ≡ byte39 g
+  -- and are written 0
+  pub zeros : (h : Held) (i l b : ℕ) → b < 40 → Fits h → bitAnd (getD (frameOf h i l) b 0) (getD (masks (i % 32)) b 0) ≡ getD (frameOf h i l) b 0
+  -- the masks are exactly those of the rows, with the index: no bit more, none twice
+  pub masked : (i b : ℕ) → i < 32 → b < 40 → getD (masks i) b 0 ≡ taken rows i b
+  -- 01's numbers
+  pub numbers : (numberOf NotForty ≡ 17) × (numberOf NoRoom ≡ 18)

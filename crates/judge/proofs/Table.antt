@@ -1,38 +1,38 @@
 -- The laws of the command table (specs/Table.antt). A byte's bits under a mask are all that a rule reads of it: one test, computed for the 256 bytes.
 -- Assumes nothing.
 use mathlib.Core.Path.{_≡_, refl, sym, ap, _∙_}
-use mathlib.Core.Bool.{Bool, true, false}
+use mathlib.Core.Bool.{Bool, true, false, not, _||_, true≢false}
 use mathlib.Core.Logic.{_⊎_, inl, inr, ⊎-elim}
-use Prim.Native.Nat.{ℕ, _/_, _%_, _≤_, _<_}
+use Prim.Native.Nat.{ℕ, _+_, _*_, _/_, _%_, _^_, _≤_, _<_}
 use native.Mathlib.Omega.{arith}
 use lib.Bits.{bitAnd}
 use lib.Dec.{T, eqb, eqb→eq}
-use borrow.Author.Tests.{ne-eqb}
+use borrow.Author.Tests.{eq-eqb, ne-eqb}
 use Rattle.base.specs.Pick.{pick}
 use Rattle.base.proofs.Table.{allBelow, below}
 use Rattle.supply.specs.declared.Refusal.{Refusal as SupplyRefusal}
 use Rattle.supply.specs.declared.Refusal.the-variants as supply
-use Rattle.supply.specs.Rules.{relayed, targeted, limited, numberOf as supplyNumberOf}
+use Rattle.supply.specs.Rules.{relayed, targeted, limited, switched, numberOf as supplyNumberOf}
 use Rattle.judge.specs.declared.Core.{Core}
 use Rattle.judge.specs.declared.Refusal.{Refusal}
 use Rattle.judge.specs.declared.Refusal.the-variants.{RelayOff, Disabled, OverLimit, StrayWord, RelayBits, WrongCheck, Unsettled, OutOfRange, WrongCount, UnknownCode}
 use Rattle.judge.specs.declared.Verdict.{Verdict}
-use Rattle.judge.specs.declared.Verdict.the-variants.{Deny}
+use Rattle.judge.specs.declared.Verdict.the-variants.{Apply, Deny}
 use Rattle.judge.specs.Refusals.{numberOf, raised}
-use Rattle.judge.specs.Commands.{relayCmd, ielCmd, maskCmd, targetCmd, limitCmd, modeCmd, steppingCmd, singleOf, muxSet, directionSet, energySet, countedOf, blockOf}
-use Rattle.judge.specs.Table.{singles, blocks, NoneOf, named, named2, Agree, TableLaws}
+use Rattle.judge.specs.Commands.{carried, relayCmd, ielCmd, maskCmd, targetCmd, limitCmd, modeCmd, steppingCmd, singleOf, muxSet, directionSet, energySet, countedOf, blockOf}
+use Rattle.judge.specs.Table.{singles, blocks, NoneOf, named, named2, Agree, has, TableLaws}
 
-numbers : (r : Refusal) → ((0x04 ≤ numberOf r) × (numberOf r ≤ 0x06)) ⊎ ((0x0B ≤ numberOf r) × (numberOf r ≤ 0x0F))
-numbers RelayOff = inl (omega arith, omega arith)
-numbers Disabled = inl (omega arith, omega arith)
-numbers OverLimit = inl (omega arith, omega arith)
-numbers StrayWord = inr (omega arith, omega arith)
-numbers RelayBits = inr (omega arith, omega arith)
-numbers WrongCheck = inr (omega arith, omega arith)
-numbers Unsettled = inr (omega arith, omega arith)
-numbers OutOfRange = inr (omega arith, omega arith)
-numbers WrongCount = inr (omega arith, omega arith)
-numbers UnknownCode = inr (omega arith, omega arith)
+between : (r : Refusal) → ((0x04 ≤ numberOf r) × (numberOf r ≤ 0x06)) ⊎ ((0x0B ≤ numberOf r) × (numberOf r ≤ 0x0F))
+between RelayOff = inl (omega arith, omega arith)
+between Disabled = inl (omega arith, omega arith)
+between OverLimit = inl (omega arith, omega arith)
+between StrayWord = inr (omega arith, omega arith)
+between RelayBits = inr (omega arith, omega arith)
+between WrongCheck = inr (omega arith, omega arith)
+between Unsettled = inr (omega arith, omega arith)
+between OutOfRange = inr (omega arith, omega arith)
+between WrongCount = inr (omega arith, omega arith)
+between UnknownCode = inr (omega arith, omega arith)
 
 kept : (r : SupplyRefusal) → numberOf (raised r) ≡ supplyNumberOf r
 kept supply.RelayOff = refl
@@ -123,13 +123,70 @@ module _ (c : Core) (n a x b y : ℕ) (ha : a < 0x100) (hx : x < 0x100) (hb : b 
       row Both (eqb code 0x24) (λ e. ap (countedOf n) (energy-same e)) (
       λ _. refl)))
 
+-- A core at which every command may be accepted: relay and stepping on, limit 15.
+abbrev ready : Core
+ready =
+    record {
+      supply = record { relay = true; stepping = true; level = 0; target = 0; limit = 15 };
+      settings = record {
+        parallel = false;
+        mask = 0;
+        iel = record { clock = false; enable = false };
+        sensor = record { mux = record { byte = 0; bit = false }; direction = record { start = 0; stop = 0 }; energy = record { start = 0; stop = 0 } };
+      };
+    }
+
+abbrev digit : Bool → ℕ
+digit b = pick b 1 0
+
+-- a number that tells a verdict on `ready` from another: each part that a command moves in a place of its own
+abbrev told : Verdict → ℕ
+told (Deny why) = 0
+told (Apply c) =
+    let s = c .supply in
+    let x = c .settings .sensor in
+    1 + digit (s .relay) + 2 * digit (s .stepping) + 4 * s .target + 64 * s .limit + 1024 * digit (c .settings .parallel) + 2048 * c .settings .mask
+    + 16384 * digit (c .settings .iel .clock) + 32768 * digit (c .settings .iel .enable) + 65536 * digit (x .mux .bit)
+    + 131072 * (x .mux .byte + x .direction .start + 32 * x .direction .stop + x .energy .start + 32 * x .energy .stop)
+
+-- where a bit of the mask is set, the two verdicts are told apart
+abbrev apart : ℕ → ℕ → Verdict → Verdict → Bool
+apart mask k v w = not (has mask k) || not (eqb (told v) (told w))
+
+-- of each code, by each bit: computed
+abbrev Tested : (ℕ → ℕ) → (ℕ → ℕ → Verdict) → (ℕ → ℕ → Verdict) → Type 0
+Tested mask none some = T (allBelow (λ code. allBelow (λ k. apart (mask code) k (none code k) (some code k)) 8) 64)
+
+module _ (mask : ℕ → ℕ) (none some : ℕ → ℕ → Verdict) (t : Tested mask none some) where
+  differs : (code k : ℕ) → code < 64 → k < 8 → has (mask code) k ≡ true → none code k ≡ some code k → ⊥
+  differs code k h l e f =
+      let z = below (λ j. apart (mask code) j (none code j) (some code j)) 8 (below (λ c. allBelow (λ j. apart (mask c) j (none c j) (some c j)) 8) 64 t code h) k l in
+      contra (has (mask code) k) (eqb (told (none code k)) (told (some code k))) e (eq-eqb _ _ (ap told f)) z
+    where
+      contra : (a b : Bool) → a ≡ true → b ≡ true → T (not a || not b) → ⊥
+      contra true true p q z = z
+      contra true false p q z = true≢false (sym q)
+      contra false b p q z = true≢false (sym p)
+
+test : Tested named (λ c j. singleOf ready c 0) (λ c j. singleOf ready c (2 ^ j))
+unfolding singleOf carried relayed targeted limited switched modeCmd
+test = tt
+
+test-first : Tested (λ c. named2 c .0) (λ c j. blockOf ready c 2 0 0) (λ c j. blockOf ready c 2 (2 ^ j) 0)
+unfolding blockOf countedOf
+test-first = tt
+
+test-second : Tested (λ c. named2 c .1) (λ c j. blockOf ready c 2 0 0) (λ c j. blockOf ready c 2 0 (2 ^ j))
+unfolding blockOf countedOf
+test-second = tt
+
 pub laws : TableLaws
 unfolding singleOf blockOf
 laws =
     record {
-      numbers = numbers;
-      never07 = λ r e. ⊎-elim (λ h. omega arith) (λ h. omega arith) (numbers r);
-      never03 = λ r e. ⊎-elim (λ h. omega arith) (λ h. omega arith) (numbers r);
+      numbers = (refl, refl, refl, refl, refl, refl, refl, refl, refl, refl);
+      never07 = λ r e. ⊎-elim (λ h. omega arith) (λ h. omega arith) (between r);
+      never03 = λ r e. ⊎-elim (λ h. omega arith) (λ h. omega arith) (between r);
       kept = kept;
       relay = λ c low. refl;
       iel = λ c low. refl;
@@ -145,4 +202,7 @@ laws =
       unknown2 = unknown2;
       ignored = ignored;
       ignored2 = λ c code n a x b y ha hx hb hy e f. ignored-both c n a x b y ha hx hb hy code (e, f);
+      read = λ code k h l e. (ready, differs named (λ c j. singleOf ready c 0) (λ c j. singleOf ready c (2 ^ j)) test code k h l e);
+      read-first = λ code k h l e. (ready, differs (λ c. named2 c .0) (λ c j. blockOf ready c 2 0 0) (λ c j. blockOf ready c 2 (2 ^ j) 0) test-first code k h l e);
+      read-second = λ code k h l e. (ready, differs (λ c. named2 c .1) (λ c j. blockOf ready c 2 0 0) (λ c j. blockOf ready c 2 0 (2 ^ j)) test-second code k h l e);
     }

@@ -1,8 +1,8 @@
 -- What a reader may count on of the command table (01, "Command words"): its numbers, its lists of codes, the bits that each command reads.
 -- The record is proved in proofs/Table.antt. Assumes nothing.
-use Prim.Native.Nat.{ℕ, _≤_, _<_}
+use Prim.Native.Nat.{ℕ, _/_, _%_, _^_, _<_}
 use mathlib.Core.Path.{_≡_}
-use mathlib.Core.Logic.{_⊎_}
+use mathlib.Core.Bool.{Bool, true}
 use mathlib.Core.List.{List, [], _∷_}
 use lib.Bits.{bitAnd}
 use lib.Dec.{eqb}
@@ -11,7 +11,7 @@ use Rattle.supply.specs.declared.Refusal.{Refusal as SupplyRefusal}
 use Rattle.supply.specs.Rules as supply
 use Rattle.judge.specs.declared.Core.{Core}
 use Rattle.judge.specs.declared.Refusal.{Refusal}
-use Rattle.judge.specs.declared.Refusal.the-variants.{UnknownCode}
+use Rattle.judge.specs.declared.Refusal.the-variants.{RelayOff, Disabled, OverLimit, StrayWord, RelayBits, WrongCheck, Unsettled, OutOfRange, WrongCount, UnknownCode}
 use Rattle.judge.specs.declared.Verdict.the-variants.{Deny}
 use Rattle.judge.specs.Refusals.{numberOf, raised}
 use Rattle.judge.specs.Commands.{relayCmd, ielCmd, maskCmd, targetCmd, limitCmd, modeCmd, steppingCmd, singleOf, muxSet, directionSet, energySet, countedOf, blockOf}
@@ -51,9 +51,15 @@ named2 code =
 abbrev pub Agree : ℕ → ℕ → ℕ → Type 0
 Agree mask a b = bitAnd a mask ≡ bitAnd b mask
 
+-- bit k of a mask is set
+abbrev pub has : ℕ → ℕ → Bool
+has mask k = eqb (mask / 2 ^ k % 2) 1
+
 pub record TableLaws : Type 0 where
-  -- the numbers given are 04h-06h and 0Bh-0Fh; 07h is never given, and 03h is no word's own (it is a dropped block's)
-  pub numbers : (r : Refusal) → ((0x04 ≤ numberOf r) × (numberOf r ≤ 0x06)) ⊎ ((0x0B ≤ numberOf r) × (numberOf r ≤ 0x0F))
+  -- the number of each; 07h is never given, and 03h is no word's own (it is a dropped block's)
+  pub numbers : (numberOf RelayOff ≡ 0x04) × (numberOf Disabled ≡ 0x05) × (numberOf OverLimit ≡ 0x06)
+      × (numberOf StrayWord ≡ 0x0B) × (numberOf RelayBits ≡ 0x0B) × (numberOf WrongCheck ≡ 0x0B)
+      × (numberOf Unsettled ≡ 0x0C) × (numberOf OutOfRange ≡ 0x0D) × (numberOf WrongCount ≡ 0x0E) × (numberOf UnknownCode ≡ 0x0F)
   pub never07 : (r : Refusal) → numberOf r ≡ 0x07 → ⊥
   pub never03 : (r : Refusal) → numberOf r ≡ 0x03 → ⊥
   -- a supply's refusal keeps its number
@@ -76,3 +82,7 @@ pub record TableLaws : Type 0 where
   pub ignored : (c : Core) (code a b : ℕ) → a < 0x100 → b < 0x100 → Agree (named code) a b → singleOf c code a ≡ singleOf c code b
   pub ignored2 : (c : Core) (code n a x b y : ℕ) → a < 0x100 → x < 0x100 → b < 0x100 → y < 0x100
       → Agree (named2 code .0) a b → Agree (named2 code .1) x y → blockOf c code n a x ≡ blockOf c code n b y
+  -- bits named are read: each by itself makes another verdict than no bit, at some core
+  pub read : (code k : ℕ) → code < 64 → k < 8 → has (named code) k ≡ true → (c : Core) × (singleOf c code 0 ≡ singleOf c code (2 ^ k) → ⊥)
+  pub read-first : (code k : ℕ) → code < 64 → k < 8 → has (named2 code .0) k ≡ true → (c : Core) × (blockOf c code 2 0 0 ≡ blockOf c code 2 (2 ^ k) 0 → ⊥)
+  pub read-second : (code k : ℕ) → code < 64 → k < 8 → has (named2 code .1) k ≡ true → (c : Core) × (blockOf c code 2 0 0 ≡ blockOf c code 2 0 (2 ^ k) → ⊥)
