@@ -2,9 +2,10 @@
 -- Assumes nothing.
 use mathlib.Core.Path.{_≡_, refl, _∙_, ap}
 use mathlib.Core.Bool.{true}
-use mathlib.Core.List.{List}
+use mathlib.Core.List.{List, [], _∷_}
 use Prim.Native.Nat.{ℕ, _<_}
 use native.Mathlib.Nat.{mod-eq-of-lt}
+use lib.Count.{ones, onesIn}
 use Rattle.judge.proofs.Table.{laws as table-laws}
 use Rattle.volts.proofs.Single.{sheet-of-one}
 use Rattle.supply.proofs.Laws.{laws as supply-laws}
@@ -15,12 +16,16 @@ use Rattle.frame.proofs.Laws.{laws as frame-laws}
 use Rattle.sending.specs.Sending.{heldOf, nextLatch, nextFrame}
 use Rattle.laws.specs.Runs.{Event, ours, reached}
 use Rattle.laws.proofs.Rows.{row-laws}
+use Rattle.laws.proofs.Blocks.{block-laws}
 use Rattle.laws.proofs.Runs.{run-laws}
 use Rattle.block.proofs.Cover.{nm-cover, bm1-cover}
 use Rattle.block.proofs.Unread.{unread-alike}
+use Rattle.event.specs.Ifft.{itemAt}
 use Rattle.event.proofs.Directions.{reader-inverts, gives-back}
-use Rattle.demands.specs.World.{proved}
+use Rattle.demands.specs.Outfit.{proved}
 use Rattle.demands.specs.Demand2.{Demand2For}
+use Rattle.demands.proofs.Held.{held-table, settles}
+use Rattle.demands.proofs.AnyDesk.{slot-laws}
 
 -- what a frame carries reads back modulo its width, and fits it
 shows : (es : List Event) (k : ℕ) → k < 25 → carries k (reached ours es .sending .next) ≡ true
@@ -29,10 +34,16 @@ shows es k l e =
     let r = reached ours es in
     frame-laws .back (heldOf r) (r .sending .next) (nextLatch r) k l e ∙ ap Value (mod-eq-of-lt (run-laws .widths es k l))
 
+-- ones in 8004h: two, so that it is good
+word-8004 : itemAt (0x12 ∷ 0x34 ∷ 0x80 ∷ 0x04 ∷ []) 0 ≡ record { first = 0x1234; second = 0x8004; good = true }
+unfolding ones onesIn
+word-8004 = refl
+
 pub demand-2 : Demand2For proved
 demand-2 =
     record {
       rows = row-laws;
+      blocks = block-laws;
       table = table-laws;
       start = refl;
       set = λ r s. refl;
@@ -42,9 +53,14 @@ demand-2 =
       sent = λ r. refl;
       shown = shows;
       layout = frame-laws;
+      held = held-table;
+      settles = settles;
+      desk = slot-laws;
       nm = nm-cover;
       bm1 = bm1-cover;
       dump = unread-alike;
+      event = refl;
+      item = word-8004;
       direction = reader-inverts;
       back = gives-back;
       volts = sheet-of-one;

@@ -4,15 +4,18 @@ use mathlib.Core.Path.{_≡_, refl, _∙_, ap, subst}
 use mathlib.Core.List.{List, [], _∷_, _++_}
 use Prim.Native.Nat.{ℕ}
 use native.Mathlib.Omega.{arith}
-use lib.ListN.{replicate}
+use lib.ListN.{getD, replicate}
 use Rattle.judge.specs.declared.Verdict.{Verdict}
 use Rattle.judge.specs.declared.Refusal.the-variants.{StrayWord}
 use Rattle.frame.specs.declared.Item.the-variants.{Bias}
 use Rattle.frame.specs.Write.{quarterOf, groundAt, muxOf, frameOf}
 use Rattle.frame.specs.Read.{allAre, arrivedOf}
+use Rattle.desk.specs.declared.Answer.{Answer}
+use Rattle.desk.specs.declared.Answer.the-variants as desk
+use Rattle.desk.specs.declared.Received.{Received}
 use Rattle.desk.specs.declared.Shown.{Shown}
 use Rattle.desk.specs.declared.Shown.the-variants.{Unknown, Known}
-use Rattle.desk.specs.Desk.{readingOf, halfAfter, cellsAfter, slotOf}
+use Rattle.desk.specs.Desk.{readingOf, halfAfter, cellsAfter, freshDesk, slotOf}
 use Rattle.power.specs.declared.PanelSetting.the-variants as panel
 use Rattle.rig.specs.declared.Rig.{Rig}
 use Rattle.rig.specs.declared.Answer.the-variants.{Accepted, Refused}
@@ -21,27 +24,25 @@ use Rattle.rig.specs.declared.Taken.{Taken}
 use Rattle.rig.specs.Words.{kindOf, refusedOf, settledOf, freshOf, takeOf}
 use Rattle.rig.specs.Start.{startRig}
 use Rattle.power.specs.Power.{setOf}
+use Rattle.laws.specs.Results.{outcome}
 use Rattle.laws.specs.Rows.{RowLaws}
 use Rattle.laws.specs.Runs as ran
-use Rattle.demands.specs.World.{Event, set, arrives, lost, run}
+use Rattle.demands.specs.Queue.{set, marked, Step, alone, built, came, idle, steps, Beat, build, hand, beats}
+use Rattle.demands.specs.AnyDesk.{IsWhole}
+use Rattle.demands.specs.Demand1.{Demand1For}
 use Rattle.demands.specs.Demand2.{Demand2For}
 use Rattle.demands.specs.Demand3.{Demand3For}
 use Rattle.demands.specs.One.{rigOf}
-use Rattle.demands.specs.Frauds.{Refusing, RefusesEverything, AnswersAlike, idler, blanker, hoarder, pretender, flatterer, uncounted, Caught}
+use Rattle.demands.specs.Frauds.{Refusing, RefusesEverything, AnswersAlike, idler, blanker, hoarder, pretender, flatterer, uncounted, snob, Caught}
 use Rattle.demands.proofs.One.{one-desk}
-
-settled : (v c : Verdict) → v ≡ c → settledOf startRig 0x26 v .answer ≡ settledOf startRig 0x26 c .answer
-settled v c e = ap (λ (x : Verdict). settledOf startRig 0x26 x .answer) e
 
 -- a head mask is accepted, and a stray data word refused
 accepts : (take : Rig → ℕ → Taken) → RowLaws take → take startRig 0x2600 .reply ≡ Plain Accepted
-unfolding settledOf
 accepts take a =
     let x = a .mask26 startRig 0 (omega arith) refl in
-    ap (λ (t : Taken). t .reply) (x .then) ∙ ap Plain (settled (x .one) _ (x .is))
+    ap (λ (t : Taken). t .reply) (x .then) ∙ ap (λ (v : Verdict). outcome startRig 0x26 v .reply) (x .is)
 
 refuses : (take : Rig → ℕ → Taken) → RowLaws take → take startRig 0x8000 .reply ≡ Plain (Refused StrayWord)
-unfolding settledOf kindOf
 refuses take a = ap (λ (t : Taken). t .reply) (a .strayData startRig 0x8000 refl refl)
 
 not-all : (take : Rig → ℕ → Taken) → RefusesEverything take → Demand2For (rigOf take) → ⊥
@@ -71,34 +72,75 @@ abbrev knownOf : Shown → ℕ
 knownOf Unknown = 0
 knownOf (Known v a) = 1
 
+abbrev answerNumber : Answer → ℕ
+answerNumber desk.Heard = 0
+answerNumber desk.Missed = 1
+answerNumber (desk.Refused why) = 2
+
 -- the bias is set to 1 between two frames
-abbrev renewed : List Event
-renewed = set (panel.Bias 1) (omega arith) ∷ arrives ∷ []
+abbrev renewed : List Step
+renewed = alone (set (panel.Bias 1) (omega arith)) ∷ built ∷ came ∷ []
+
+-- a frame and a miss
+abbrev thenMissed : List Step
+thenMissed = built ∷ came ∷ idle marked ∷ []
+
+-- 35 frames built, and all arrived
+abbrev all : List Beat
+all = replicate 35 build ++ replicate 35 hand
 
 -- after 35 whole slots nothing is shown
 not-idler : Demand3For idler → ⊥
-unfolding run
-not-idler d = let e : _≡_ {A = ℕ} 0 1 = ap knownOf (d .round [] Bias .1) in omega arith
+unfolding steps
+not-idler d = let e : _≡_ {A = ℕ} 0 1 = ap knownOf (d .round [] refl all refl refl Bias .1) in omega arith
 
 -- a frame, a miss, and nothing is shown
 not-blanker : Demand3For blanker → ⊥
-unfolding run slotOf arrivedOf allAre cellsAfter readingOf halfAfter frameOf muxOf quarterOf groundAt
-not-blanker d = let e : _≡_ {A = ℕ} 0 1 = ap knownOf (one-desk _ _ _ _ d (arrives ∷ lost ∷ []) Bias) in omega arith
+unfolding steps slotOf arrivedOf allAre cellsAfter readingOf halfAfter frameOf muxOf quarterOf groundAt
+not-blanker d = let e : _≡_ {A = ℕ} 0 1 = ap knownOf (one-desk _ _ _ _ d thenMissed Bias) in omega arith
 
 -- a frame, a new bias, a frame, and the old one is shown
 not-hoarder : Demand3For hoarder → ⊥
-unfolding run slotOf arrivedOf allAre cellsAfter readingOf halfAfter frameOf muxOf quarterOf groundAt setOf
-not-hoarder d = let e : _≡_ {A = ℕ} 0 1 = ap valueOf (one-desk _ _ _ _ d (arrives ∷ renewed) Bias) in omega arith
+unfolding steps slotOf arrivedOf allAre cellsAfter readingOf halfAfter frameOf muxOf quarterOf groundAt setOf
+not-hoarder d = let e : _≡_ {A = ℕ} 0 1 = ap valueOf (one-desk _ _ _ _ d (built ∷ came ∷ renewed) Bias) in omega arith
 
 -- a whole round, a new bias, a frame, and the old one is shown
 not-pretender : Demand3For pretender → ⊥
-unfolding run slotOf arrivedOf allAre cellsAfter readingOf halfAfter frameOf muxOf quarterOf groundAt setOf
-not-pretender d = let e : _≡_ {A = ℕ} 0 1 = ap valueOf (one-desk _ _ _ _ d (replicate 35 arrives ++ renewed) Bias) in omega arith
+unfolding steps slotOf arrivedOf allAre cellsAfter readingOf halfAfter frameOf muxOf quarterOf groundAt setOf
+not-pretender d = let e : _≡_ {A = ℕ} 0 1 = ap valueOf (one-desk _ _ _ _ d (beats all ++ renewed) Bias) in omega arith
 
 -- a frame, a miss, and the bias is still shown as new
 not-flatterer : Demand3For flatterer → ⊥
-unfolding run slotOf arrivedOf allAre cellsAfter readingOf halfAfter frameOf muxOf quarterOf groundAt
-not-flatterer d = let e : _≡_ {A = ℕ} 0 1 = ap ageOf (one-desk _ _ _ _ d (arrives ∷ lost ∷ []) Bias) in omega arith
+unfolding steps slotOf arrivedOf allAre cellsAfter readingOf halfAfter frameOf muxOf quarterOf groundAt
+not-flatterer d = let e : _≡_ {A = ℕ} 0 1 = ap ageOf (one-desk _ _ _ _ d thenMissed Bias) in omega arith
+
+-- fill is told as heard
+not-liar : Demand1For snob → ⊥
+unfolding slotOf arrivedOf allAre
+not-liar d = let e : _≡_ {A = ℕ} 0 1 = ap answerNumber (ap (λ (t : Received). t .answer) (d .fill freshDesk .0)) in omega arith
+
+-- a foreign frame of index 0, whose byte 3 is not 0
+abbrev foreign : List ℕ
+foreign = 0 ∷ 0 ∷ 0 ∷ 0x80 ∷ replicate 36 0
+
+byte-3 : List ℕ → ℕ
+byte-3 f = getD f 3 0
+
+foreign-whole : IsWhole foreign
+unfolding byte-3
+foreign-whole =
+    record {
+      forty = refl;
+      notC0 = λ e. let z : _≡_ {A = ℕ} 0x80 0xC0 = ap byte-3 e in omega arith;
+      notFF = λ e. let z : _≡_ {A = ℕ} 0x80 0xFF = ap byte-3 e in omega arith;
+    }
+
+-- it carries the bias, which is not shown
+not-snob : Demand2For snob → ⊥
+unfolding slotOf arrivedOf allAre cellsAfter readingOf halfAfter
+not-snob d =
+    let e : _≡_ {A = ℕ} 0 1 = ap knownOf (d .desk .plain freshDesk foreign Bias foreign-whole (omega arith) refl) in
+    omega arith
 
 pub caught : Caught
 caught =
@@ -111,4 +153,6 @@ caught =
       holds = not-hoarder;
       pretends = not-pretender;
       ages = not-flatterer;
+      lies = not-liar;
+      snubs = not-snob;
     }

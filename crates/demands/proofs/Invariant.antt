@@ -20,7 +20,8 @@ use Rattle.laws.specs.Runs as ran
 use Rattle.laws.proofs.Replies.{reply-laws}
 use Rattle.laws.proofs.Runs.{run-laws}
 use Rattle.demands.specs.History.{Slot, missed, whole}
-use Rattle.demands.specs.World.{Event, word, spin, set, cut, arrives, lost, lostC0, lostFF, idle, idleC0, idleFF, noRoom, torn, World, proved, start, next, run, fillC0, fillFF}
+use Rattle.demands.specs.Outfit.{proved, fillC0, fillFF}
+use Rattle.demands.specs.AtOnce.{Event, word, spin, set, cut, arrives, lost, lostC0, lostFF, idle, idleC0, idleFF, noRoom, torn, World, start, next, run}
 use Rattle.demands.proofs.Shown.{brought, shownOf}
 use Rattle.desk.proofs.Laws.{laws as desk-laws}
 use Rattle.demands.proofs.Half.{Good, halfOf, Linked, half-step, reads, linked-built, linked-missed}

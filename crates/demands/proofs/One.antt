@@ -1,31 +1,58 @@
--- The history of slots leaves one thing to be shown, demand 3 one desk, and demands 1 and 2 one function that takes words.
+-- The history of slots leaves one thing to be shown, demand 3 one desk, and demands 1 and 2 one rig and one hearing of all bytes.
 -- Assumes nothing.
-use mathlib.Core.Path.{_≡_, refl, _∙_, sym, subst}
-use mathlib.Core.List.{List, [], _∷_}
-use Prim.Native.Nat.{ℕ, _+_, _<_, min}
+use mathlib.Core.Path.{_≡_, refl, _∙_, ap, sym, subst}
+use mathlib.Core.Bool.{true, false, true≢false}
+use mathlib.Core.List.{List, [], _∷_, _++_}
+use mathlib.Core.Logic.{_⊎_, inl, inr, ⊎-elim}
+use Prim.Native.Nat.{ℕ, _+_, _-_, _<_, min}
 use native.Mathlib.Decide.{ℕ-discrete}
 use native.Mathlib.Omega.{arith}
-use lib.ListN.{drop}
+use lib.Dec.{ltb}
+use lib.ListN.{length, take, drop}
+use borrow.Author.Tests.{ltb-true, ltb-false}
+use Rattle.base.specs.declared.Spins.{Spins}
 use Rattle.base.specs.Counts.{frames, ceiling}
+use Rattle.base.proofs.Cases.{split}
+use Rattle.supply.specs.declared.Supply.{Supply}
+use Rattle.supply.specs.Rules.{withLevel, stepped}
+use Rattle.supply.specs.Laws.{SpinMoves}
 use Rattle.frame.specs.declared.Item.{Item}
+use Rattle.frame.specs.declared.Item.the-variants.{Parallel, Multiplexer1, Multiplexer2, Multiplexer3, ErrorCode, DirectionStop, DirectionStart, EnergyStop, EnergyStart, LastInvalidCode, IelEnable, ReducedCounter, Bias, Relay, Ground, Stepping, Limit, Level, Flap1, Flap2, Flap3, IelClock, LastCheck, InvalidCount, HeadMask, LongCounter, FreeTime}
+use Rattle.frame.specs.declared.Wrote.the-variants as wrote
 use Rattle.frame.specs.Items.{rowOf}
-use Rattle.frame.specs.Read.{bornOf}
+use Rattle.frame.specs.Read.{indexOf, carries, bornOf}
+use Rattle.frame.specs.Laws.{byte39}
 use Rattle.desk.specs.declared.Desk.{Desk}
+use Rattle.desk.specs.declared.Half.{Half}
+use Rattle.desk.specs.declared.Answer.{Answer}
 use Rattle.desk.specs.declared.Shown.{Shown}
 use Rattle.desk.specs.declared.Shown.the-variants.{Known}
 use Rattle.desk.specs.declared.Received.{Received}
+use Rattle.desk.specs.Laws.{answered}
+use Rattle.judge.specs.declared.Settings.{Settings}
+use Rattle.rig.specs.declared.Faults.{Faults}
+use Rattle.rig.specs.declared.Pending.{Pending}
+use Rattle.rig.specs.declared.Panel.{Panel}
+use Rattle.rig.specs.declared.Sending.{Sending}
 use Rattle.rig.specs.declared.Rig.{Rig}
 use Rattle.rig.specs.Words.{takeOf}
-use Rattle.power.specs.Power.{spunOf, setOf, cutOf}
-use Rattle.sending.specs.Sending.{sent, builtOf}
+use Rattle.power.specs.Power.{spunOf}
+use Rattle.sending.specs.Sending.{sent}
+use Rattle.laws.specs.Runs.{Spun}
 use Rattle.laws.proofs.Replies.{reply-laws}
 use Rattle.laws.proofs.Rows.{row-laws}
 use Rattle.laws.proofs.One as laws
 use Rattle.demands.specs.History.{Slot, missed, whole, Brings, Told, not-yet, latest}
-use Rattle.demands.specs.World.{Outfit, proved, World, Event, word, spin, set, cut, arrives, lost, lostC0, lostFF, idle, idleC0, idleFF, noRoom, torn, run, after}
-use Rattle.demands.specs.Demand3.{Demand3For}
-use Rattle.demands.specs.One.{deskOf, OneTold, OneDesk, OneRig}
+use Rattle.demands.specs.Outfit.{Outfit, proved, fillC0, fillFF}
+use Rattle.demands.specs.Queue.{Line, Alone, word, spin, set, cut, noRoom, Step, alone, built, came, gone, idle, torn, moved, steps}
+use Rattle.demands.specs.AnyDesk.{IsWhole, older, completed, replaced, halfBy, SlotLaws}
+use Rattle.demands.specs.Demand1.{Demand1For}
+use Rattle.demands.specs.Demand2.{Demand2For}
+use Rattle.demands.specs.Demand3.{Demand3For, reached}
+use Rattle.demands.specs.One.{deskOf, OneTold, OneDesk, OneRig, Came, bytes, miss, allCome, OneHearing}
 use Rattle.demands.proofs.Shown.{brings-is}
+use Rattle.demands.proofs.AnyDesk.{slot-laws}
+use Rattle.demands.proofs.Demand1.{demand-1}
 use Rattle.demands.proofs.Demand3.{demand-3}
 
 -- what is brought at one place is one value
@@ -53,39 +80,218 @@ one-told k h s t (latest i v b m) (latest j u c n) =
     apart : (i < j → ⊥) → (j < i → ⊥) → (i ≡ j → ⊥) → ⊥
     apart f g e = e (omega (arith, f, g))
 
-module _ (fresh : Desk) (slot : Desk → List ℕ → Received) (miss : Desk → Desk) (look : Desk → Item → Shown) where
+module _ (fresh : Desk) (slot : Desk → List ℕ → Received) (lose : Desk → Desk) (look : Desk → Item → Shown) where
   abbrev O : Outfit
-  O = deskOf fresh slot miss look
+  O = deskOf fresh slot lose look
 
-  abbrev W : Rig → Desk → List Slot → World
-  W r d h = record { rig = r; desk = d; past = h }
+  abbrev L : Rig → Desk → List Slot → List Rig → Line
+  L r d h w = record { rig = r; desk = d; past = h; way = w }
 
-  -- the history does not depend on the desk
-  same-past : (es : List Event) (r : Rig) (d e : Desk) (h : List Slot) → run O (W r d h) es .past ≡ run proved (W r e h) es .past
-  unfolding run
-  same-past [] r d e h = refl
-  same-past (word w b ∷ es) r d e h = same-past es (takeOf r w .rig) d e h
-  same-past (spin ∷ es) r d e h = same-past es (spunOf r) d e h
-  same-past (set s b ∷ es) r d e h = same-past es (setOf r s) d e h
-  same-past (cut ∷ es) r d e h = same-past es (cutOf r) d e h
-  same-past (arrives ∷ es) r d e h = same-past es (sent r) _ _ (whole r ∷ h)
-  same-past (lost ∷ es) r d e h = same-past es (sent r) _ _ (missed ∷ h)
-  same-past (lostC0 ∷ es) r d e h = same-past es (sent r) _ _ (missed ∷ h)
-  same-past (lostFF ∷ es) r d e h = same-past es (sent r) _ _ (missed ∷ h)
-  same-past (idle ∷ es) r d e h = same-past es r _ _ (missed ∷ h)
-  same-past (idleC0 ∷ es) r d e h = same-past es r _ _ (missed ∷ h)
-  same-past (idleFF ∷ es) r d e h = same-past es r _ _ (missed ∷ h)
-  same-past (noRoom b at n ∷ es) r d e h = same-past es (builtOf r b at .rig) d e h
-  same-past (torn f n ∷ es) r d e h = same-past es r _ _ h
+  -- what happens to the rig alone does not depend on the desk
+  same-moved : (r : Rig) (e : Alone) → moved O r e ≡ moved proved r e
+  same-moved r (word x h) = refl
+  same-moved r spin = refl
+  same-moved r (set s h) = refl
+  same-moved r cut = refl
+  same-moved r (noRoom b at h) = refl
 
-  shows-ours : Demand3For O → (es : List Event) (item : Item) → look (after O es .desk) item ≡ proved .look (after proved es .desk) item
-  shows-ours m es item =
-      one-told (rowOf item) (after proved es .past) _ _
-      (subst (λ (h : List Slot). Told (rowOf item) h (look (after O es .desk) item)) (same-past es (proved .rig .start) fresh (proved .fresh) []) (m .shown es item))
-      (demand-3 .shown es item)
+  -- nor does the history
+  same-past : (ss : List Step) (r : Rig) (d e : Desk) (h : List Slot) (w : List Rig) → steps O (L r d h w) ss .past ≡ steps proved (L r e h w) ss .past
+  unfolding steps
+  same-past [] r d e h w = refl
+  same-past (alone x ∷ ss) r d e h w =
+      ap (λ (q : Rig). steps O (L q d h w) ss .past) (same-moved r x) ∙ same-past ss (moved proved r x) d e h w
+  same-past (built ∷ ss) r d e h w = same-past ss (sent r) d e h _
+  same-past (came ∷ ss) r d e h [] = same-past ss r d e h []
+  same-past (came ∷ ss) r d e h (q ∷ w) = same-past ss r _ _ (whole q ∷ h) w
+  same-past (gone x ∷ ss) r d e h [] = same-past ss r d e h []
+  same-past (gone x ∷ ss) r d e h (q ∷ w) = same-past ss r _ _ (missed ∷ h) w
+  same-past (idle x ∷ ss) r d e h w = same-past ss r _ _ (missed ∷ h) w
+  same-past (torn f n ∷ ss) r d e h w = same-past ss r _ _ h w
+
+  shows-ours : Demand3For O → (ss : List Step) (item : Item) → look (reached O ss .desk) item ≡ proved .look (reached proved ss .desk) item
+  shows-ours m ss item =
+      one-told (rowOf item) (reached proved ss .past) _ _
+      (subst (λ (h : List Slot). Told (rowOf item) h (look (reached O ss .desk) item)) (same-past ss (proved .rig .start) fresh (proved .fresh) [] []) (m .shown ss item))
+      (demand-3 .shown ss item)
 
 pub one-desk : OneDesk
-one-desk fresh slot miss look m es item = shows-ours fresh slot miss look m es item
+one-desk fresh slot lose look m ss item = shows-ours fresh slot lose look m ss item
+
+-- one supply after a spin
+level-is : (s n : Supply) → SpinMoves s n → n ≡ stepped s
+level-is s n m =
+    split (s .relay) (λ r.
+    split (s .stepping) (λ t.
+    split (ltb (s .level) (s .target))
+    (λ a. let e : stepped s ≡ withLevel s (s .level + 1) = rw (r, t, a) refl in m .alone ∙ ap (withLevel s) (m .up r t (ltb-true _ _ a)) ∙ sym e)
+    (λ a.
+    split (ltb (s .target) (s .level))
+    (λ b.
+    let e : stepped s ≡ withLevel s (s .level - 1) = rw (r, t, a, b) refl in
+    let f : n .level ≡ s .level - 1 = let d = m .down r t (ltb-true _ _ b) in omega arith in
+    m .alone ∙ ap (withLevel s) f ∙ sym e)
+    (λ b.
+    let e : s .level ≡ s .target = let x = ltb-false (s .level) (s .target) a in let y = ltb-false (s .target) (s .level) b in omega arith in
+    let f : stepped s ≡ s = rw (r, t, a, b) refl in
+    m .still (inr (inr e)) ∙ sym f)))
+    (λ t. let e : stepped s ≡ s = rw (r, t) refl in m .still (inr (inl t)) ∙ sym e))
+    (λ r. let e : stepped s ≡ s = rw r refl in m .still (inl r) ∙ sym e)
+
+-- a rig is its parts
+made : Supply → Settings → Faults → Pending → ℕ → Panel → Sending → Spins → Rig
+made a b c d e f g h = record { core = record { supply = a; settings = b }; faults = c; pending = d; check = e; panel = f; sending = g; edbs = h }
+
+same-made : {a i : Supply} {b j : Settings} {c k : Faults} {d l : Pending} {e m : ℕ} {f n : Panel} {g o : Sending} {h p : Spins}
+    → a ≡ i → b ≡ j → c ≡ k → d ≡ l → e ≡ m → f ≡ n → g ≡ o → h ≡ p → made a b c d e f g h ≡ made i j k l m n o p
+same-made q r s t u v w x = cc
+
+parts-are : (r q : Rig) → q .core .supply ≡ r .core .supply → q .core .settings ≡ r .core .settings → q .faults ≡ r .faults → q .pending ≡ r .pending
+    → q .check ≡ r .check → q .panel ≡ r .panel → q .sending ≡ r .sending → q .edbs ≡ r .edbs → q ≡ r
+unfolding made
+parts-are r q a b c d e f g h = same-made a b c d e f g h
+
+spin-is : (r q : Rig) → Spun r q → q ≡ spunOf r
+spin-is r q m =
+    parts-are (spunOf r) q (level-is (r .core .supply) (q .core .supply) (m .supply)) (m .settings) (m .faults) (m .pending) (m .check) (m .panel) (m .sending) (m .edbs)
 
 pub one-rig : OneRig
-one-rig o one two r w = laws.one-rig (o .rig .take) takeOf (two .rows) (one .words) row-laws reply-laws r w
+one-rig o one two =
+    let frame = two .frame in
+    record {
+      start = two .start;
+      take = λ r w. laws.one-rig (o .rig .take) takeOf (two .rows) (one .words) row-laws reply-laws r w;
+      spin = λ r. spin-is r (o .rig .spin r) (two .runs .spin r);
+      set = two .set;
+      cut = λ r. two .runs .cut r ∙ two .start;
+      sent = two .sent;
+      frame = frame;
+      build = λ r b at.
+          split (ltb (length b) (at + 40))
+          (λ t. let h = ltb-true _ _ t in one .room18 r b at h .0 ∙ sym (demand-1 .room18 r b at h .0))
+          (λ t.
+          let h = ltb-false _ _ t in
+          one .room r b at h .0 ∙ ap (λ (q : Rig). record { rig = q; answer = wrote.Done }) (two .sent r) ∙ sym (demand-1 .room r b at h .0));
+      filled = λ r b at.
+          split (ltb (length b) (at + 40))
+          (λ t. let h = ltb-true _ _ t in one .room18 r b at h .1 ∙ sym (demand-1 .room18 r b at h .1))
+          (λ t.
+          let h = ltb-false _ _ t in
+          one .room r b at h .1 ∙ ap (λ (f : List ℕ). take at b ++ (f ++ drop (at + 40) b)) (two .frame r) ∙ sym (demand-1 .room r b at h .1));
+    }
+
+-- what 40 bytes, or any others, are
+data Sort (f : List ℕ) : Type 0 where
+  other : (length f ≡ 40 → ⊥) → Sort f
+  fill : (f ≡ fillC0) ⊎ (f ≡ fillFF) → Sort f
+  proper : IsWhole f → Sort f
+
+-- bytes are those of another list, or not
+alike : (f g : List ℕ) → (f ≡ g) ⊎ (f ≡ g → ⊥)
+alike [] [] = inl refl
+alike [] (y ∷ g) = inr (λ e. let z : _≡_ {A = ℕ} 0 1 = cc in omega arith)
+alike (x ∷ f) [] = inr (λ e. let z : _≡_ {A = ℕ} 0 1 = cc in omega arith)
+alike (x ∷ f) (y ∷ g) =
+    elim (ℕ-discrete x y) [
+      | yes e ↦ ⊎-elim (λ (h : f ≡ g). inl (let p : x ∷ f ≡ y ∷ g = cc in p)) (λ (h : f ≡ g → ⊥). inr (λ q. h (let p : f ≡ g = cc in p))) (alike f g)
+      | no n ↦ inr (λ q. n (let p : x ≡ y = cc in p))
+    ]
+
+sort-of : (f : List ℕ) → Sort f
+sort-of f =
+    elim (ℕ-discrete (length f) 40) [
+      | no n ↦ other n
+      | yes l ↦ ⊎-elim (λ (e : f ≡ fillC0). fill (inl e)) (λ (a : f ≡ fillC0 → ⊥).
+          ⊎-elim (λ (e : f ≡ fillFF). fill (inr e)) (λ (b : f ≡ fillFF → ⊥). proper (record { forty = l; notC0 = a; notFF = b })) (alike f fillFF)) (alike f fillC0)
+    ]
+
+answer-in : {s t : Received} {a : Answer} {d e : Desk} → s ≡ answered a d → t ≡ answered a e → s .answer ≡ t .answer
+answer-in p q = ap (λ (t : Received). t .answer) p ∙ sym (ap (λ (t : Received). t .answer) q)
+
+-- two desks that show the same and have the same half read
+record SameDesk (o : Outfit) (d e : Desk) : Type 0 where
+  looks : (item : Item) → o .look d item ≡ proved .look e item
+  halves : d .half ≡ e .half
+
+module _ (o : Outfit) (one : Demand1For o) (two : Demand2For o) where
+  abbrev mine : SlotLaws o
+  mine = two .desk
+
+  abbrev yours : SlotLaws proved
+  yours = slot-laws
+
+  missed-same : {d e : Desk} → SameDesk o d e → SameDesk o (o .missed d) (proved .missed e)
+  missed-same {d} {e} m =
+      record { looks = λ item. mine .miss d item ∙ ap older (m .looks item) ∙ sym (yours .miss e item); halves = mine .miss-half d ∙ sym (yours .miss-half e) }
+
+  -- a whole frame, item by item
+  whole-looks : {d e : Desk} (f : List ℕ) → IsWhole f → SameDesk o d e → (item : Item) → o .look (o .slot d f .desk) item ≡ proved .look (proved .slot e f .desk) item
+  whole-looks {d} {e} f w m item =
+      split (ltb (rowOf item) 25)
+      (λ t.
+      let h = ltb-true _ _ t in
+      split (carries (rowOf item) (indexOf f))
+      (λ c. mine .plain d f item w h c ∙ sym (yours .plain e f item w h c))
+      (λ c. mine .other d f item w h c ∙ ap older (m .looks item) ∙ sym (yours .other e f item w h c)))
+      (λ t. spread item t)
+    where
+      spread : (item : Item) → ltb (rowOf item) 25 ≡ false → o .look (o .slot d f .desk) item ≡ proved .look (proved .slot e f .desk) item
+      spread LongCounter t = mine .long d f w ∙ ap (λ (x : Half). replaced (completed x 3 3 f) (o .look d LongCounter)) (m .halves) ∙ ap (replaced (completed (e .half) 3 3 f)) (m .looks LongCounter) ∙ sym (yours .long e f w)
+      spread FreeTime t = mine .free d f w ∙ ap (λ (x : Half). replaced (completed x 28 1 f) (o .look d FreeTime)) (m .halves) ∙ ap (replaced (completed (e .half) 28 1 f)) (m .looks FreeTime) ∙ sym (yours .free e f w)
+      spread Parallel t = absurd (true≢false t)
+      spread Multiplexer1 t = absurd (true≢false t)
+      spread Multiplexer2 t = absurd (true≢false t)
+      spread Multiplexer3 t = absurd (true≢false t)
+      spread ErrorCode t = absurd (true≢false t)
+      spread DirectionStop t = absurd (true≢false t)
+      spread DirectionStart t = absurd (true≢false t)
+      spread EnergyStop t = absurd (true≢false t)
+      spread EnergyStart t = absurd (true≢false t)
+      spread LastInvalidCode t = absurd (true≢false t)
+      spread IelEnable t = absurd (true≢false t)
+      spread ReducedCounter t = absurd (true≢false t)
+      spread Bias t = absurd (true≢false t)
+      spread Relay t = absurd (true≢false t)
+      spread Ground t = absurd (true≢false t)
+      spread Stepping t = absurd (true≢false t)
+      spread Limit t = absurd (true≢false t)
+      spread Level t = absurd (true≢false t)
+      spread Flap1 t = absurd (true≢false t)
+      spread Flap2 t = absurd (true≢false t)
+      spread Flap3 t = absurd (true≢false t)
+      spread IelClock t = absurd (true≢false t)
+      spread LastCheck t = absurd (true≢false t)
+      spread InvalidCount t = absurd (true≢false t)
+      spread HeadMask t = absurd (true≢false t)
+
+  slot-same : {d e : Desk} (f : List ℕ) → Sort f → SameDesk o d e → SameDesk o (o .slot d f .desk) (proved .slot e f .desk)
+  slot-same {d} {e} f (other n) m = rw (one .frame17 d f n, demand-1 .frame17 e f n) m
+  slot-same {d} {e} f (fill (inl q)) m = rw (q, one .fill d .0, demand-1 .fill e .0) (missed-same m)
+  slot-same {d} {e} f (fill (inr q)) m = rw (q, one .fill d .1, demand-1 .fill e .1) (missed-same m)
+  slot-same {d} {e} f (proper w) m =
+      record {
+        looks = whole-looks f w m;
+        halves = mine .half d f w ∙ ap (λ (x : Half). halfBy x (indexOf f) (byte39 f)) (m .halves) ∙ sym (yours .half e f w);
+      }
+
+  all-same : (cs : List Came) {d e : Desk} → SameDesk o d e → SameDesk o (allCome o d cs) (allCome proved e cs)
+  unfolding allCome
+  all-same [] m = m
+  all-same (bytes f ∷ cs) m = all-same cs (slot-same f (sort-of f) m)
+  all-same (miss ∷ cs) m = all-same cs (missed-same m)
+
+  fresh-same : SameDesk o (o .fresh) (proved .fresh)
+  fresh-same = record { looks = λ item. mine .fresh item ∙ sym (yours .fresh item); halves = mine .fresh-half ∙ sym (yours .fresh-half) }
+
+  answer-same : (d : Desk) (f : List ℕ) → Sort f → o .slot d f .answer ≡ proved .slot d f .answer
+  answer-same d f (other n) = answer-in (one .frame17 d f n) (demand-1 .frame17 d f n)
+  answer-same d f (fill (inl q)) = rw q (answer-in (one .fill d .0) (demand-1 .fill d .0))
+  answer-same d f (fill (inr q)) = rw q (answer-in (one .fill d .1) (demand-1 .fill d .1))
+  answer-same d f (proper w) = one .heard d f w ∙ sym (demand-1 .heard d f w)
+
+pub one-hearing : OneHearing
+one-hearing o one two =
+    record {
+      answers = λ d f. answer-same o one two d f (sort-of f);
+      shows = λ cs item. all-same o one two cs (fresh-same o one two) .looks item;
+    }

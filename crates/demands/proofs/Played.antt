@@ -1,35 +1,129 @@
--- Each event of the world is what the functions of `bench` and `slots` do.
+-- Each step of a run is what the functions of `bench` and `slots` do: from their contracts, and what a buffer with room holds once a frame is built.
 -- Assumes nothing.
-use mathlib.Core.Path.{_≡_, refl}
-use mathlib.Core.List.{List}
-use Prim.Native.Nat.{ℕ, _+_, _≤_}
-use lib.ListN.{length}
-use Rattle.frame.specs.declared.Wrote.the-variants.{Done}
+use mathlib.Core.Path.{_≡_, refl, _∙_, ap, sym}
+use mathlib.Core.List.{List, [], _∷_}
+use Prim.Native.Nat.{ℕ, _+_, _≤_, _<_}
+use lib.ListN.{length, take, drop}
+use borrow.Author.Tests.{lt-ltb}
+use denote.Ref.{now}
+use Rattle.frame.specs.declared.Wrote.{Wrote}
+use Rattle.frame.specs.declared.Wrote.the-variants as wrote
+use Rattle.frame.specs.Items.{numbered}
 use Rattle.frame.specs.Write.{wroteOf}
-use Rattle.frame.proofs.Place.{room}
-use Rattle.sending.specs.Sending.{heldOf}
-use Rattle.demands.specs.World.{World}
-use Rattle.demands.specs.Played.{Played}
+use Rattle.frame.proofs.Place.{room, short}
+use Rattle.desk.specs.declared.Answer.the-variants.{Heard}
+use Rattle.desk.specs.declared.Received.{Received}
+use Rattle.desk.proofs.Laws.{laws as desk-laws}
+use Rattle.rig.specs.declared.Rig.{Rig}
+use Rattle.sending.specs.Sending.{heldOf, nextLatch, filledOf, nextFrame}
+use Rattle.bench.specs.declared.Bench.{Bench}
+use Rattle.bench.specs.declared.Worded.{Worded}
+use Rattle.slots.specs.declared.Sent.{Sent}
+use Rattle.slots.specs.declared.Handed.{Handed}
+use Rattle.slots.specs.Slots.{builtBench, handedOf, arrivedBench, lostBench}
+use Rattle.slots.proofs.Place.{stands}
+use Rattle.demands.specs.Outfit.{proved}
+use Rattle.demands.specs.Queue.{Line, marked, C0, FF, built, came, gone, arrive, lose}
+use Rattle.demands.specs.Played.{benchAt, then, Oldest, PlayedAlone, PlayedSlots}
 
--- a buffer with room is written
-writes : (w : World) (b : List ℕ) (at : ℕ) → at + 40 ≤ length b → wroteOf at b ≡ Done
-writes w b at h = room (heldOf (w .rig)) 0 0 at b h .0
+-- a buffer with room is written; one without is refused
+writes : (r : Rig) (s : List ℕ) (at : ℕ) → at + 40 ≤ length s → wroteOf at s ≡ wrote.Done
+writes r s at h = room (heldOf r) 0 0 at s h .0
 
-pub played : Played
-played =
+no-room : (s : List ℕ) (at : ℕ) → length s < at + 40 → _≡_ {A = Wrote} (wroteOf at s) (wrote.Refused (numbered 18))
+no-room s at h = simp (lt-ltb _ _ h)
+
+abbrev sentBench : Sent → Bench
+sentBench t = t .bench
+
+abbrev handedBench : Handed → Bench
+handedBench t = t .bench
+
+pub played-alone : PlayedAlone
+played-alone =
     record {
-      fresh = refl;
-      words = λ w x h. refl;
-      spins = λ w. refl;
-      sets = λ w s h. refl;
-      cuts = λ w. refl;
-      whole = λ w b at h. rw (writes w b at h) refl;
-      misses = λ w b at h. rw (writes w b at h) refl;
-      fillsC0 = λ w b at h. rw (writes w b at h) refl;
-      fillsFF = λ w b at h. rw (writes w b at h) refl;
-      idles = λ w. refl;
-      idlesC0 = λ w. refl;
-      idlesFF = λ w. refl;
-      room18 = λ w b at h. refl;
-      frame17 = λ w f h. refl;
+      fresh = λ b m. m;
+      words = λ l x h t m. (ap (λ (t : Worded). t .bench) m, ap (λ (t : Worded). t .reply) m);
+      spins = λ l b m. m;
+      sets = λ l s h b m. m;
+      cuts = λ l b m. m;
+      asks-fresh = tt;
+      asks-word = λ b x. tt;
+      asks-spin = λ b. tt;
+      asks-set = λ b s. tt;
+      asks-cut = λ b. tt;
+    }
+
+-- what is built, at a buffer with room
+built-bench : (l : Line) (s : List ℕ) (at : ℕ) → at + 40 ≤ length s → builtBench (benchAt l) s at .bench ≡ benchAt (then l built)
+built-bench l s at h = rw (writes (l .rig) s at h) refl
+
+arrived-bench : (l : Line) (s : List ℕ) (at : ℕ) → l .way ≡ [] → at + 40 ≤ length s → arrivedBench (benchAt l) s at .bench ≡ benchAt (then (then l built) came)
+arrived-bench l s at e h = rw (e, writes (l .rig) s at h) refl
+
+lost-bench : (l : Line) (s : List ℕ) (at : ℕ) → l .way ≡ [] → at + 40 ≤ length s → lostBench (benchAt l) s at .bench ≡ benchAt (then (then l built) (gone marked))
+lost-bench l s at e h = rw (e, writes (l .rig) s at h) refl
+
+-- what is handed over, at the bench of a line
+handed-at : (l : Line) (b : Bench) (f g : List ℕ) (t : Handed) → b ≡ benchAt l → f ≡ g → t ≡ handedOf b f → t ≡ handedOf (benchAt l) g
+handed-at l b f g t p q m = m ∙ ap (λ (x : Bench). handedOf x f) p ∙ ap (handedOf (benchAt l)) q
+
+-- the bytes that a build left at its place are the frame
+left : (r q : Rig) (s e : List ℕ) (at : ℕ) → q ≡ r → at + 40 ≤ length s → e ≡ filledOf q s at → take 40 (drop at e) ≡ nextFrame r
+left r q s e at p h m = ap (λ (x : List ℕ). take 40 (drop at x)) (m ∙ ap (λ (x : Rig). filledOf x s at) p) ∙ stands r s at h
+
+pub played-slots : PlayedSlots
+played-slots =
+    record {
+      builds = λ l κs a e t p h m.
+          let s = now (a .1 .0) in
+          let at = a .1 .1 .0 in
+          (ap sentBench (m .0 ∙ ap (λ (b : Bench). builtBench b s at) p) ∙ built-bench l s at h, ap (λ (t : Sent). t .wrote) (m .0) ∙ writes (l .rig) s at h);
+      room18 = λ l κs a e t p h m.
+          let s = now (a .1 .0) in
+          let at = a .1 .1 .0 in
+          let r = a .0 .rig in (
+            ap sentBench (m .0 ∙ ap (λ (b : Bench). builtBench b s at) p),
+            ap (λ (t : Sent). t .wrote) (m .0) ∙ no-room s at h,
+            m .1 ∙ short (heldOf r) (r .sending .next) (nextLatch r) at s h .1,
+          );
+      hands = λ l r rs o κs a e q x h m κt b f t p g n.
+          let k = handed-at l (b .0) (now (b .1 .0)) (nextFrame r) t p (g ∙ left r (a .0 .rig) (now (a .1 .0)) (e .1 .0 .now) (a .1 .1 .0) x h (m .1)) n in (
+            ap handedBench k ∙ sym (ap (λ (x : List Rig). benchAt (arrive proved l x)) o),
+            ap (λ (t : Handed). t .answer) k ∙ ap (λ (t : Received). t .answer) (desk-laws .built (l .desk) (heldOf r) (r .sending .next) (nextLatch r)),
+          );
+      misses = λ l r rs o b m. m ∙ sym (ap (λ (x : List Rig). benchAt (lose proved l marked x)) o);
+      fillsC0 = λ l r rs o κs a e t p g m.
+          let k = handed-at l (a .0) (now (a .1 .0)) _ t p g m in (
+            ap handedBench k ∙ sym (ap (λ (x : List Rig). benchAt (lose proved l C0 x)) o),
+            ap (λ (t : Handed). t .answer) k ∙ ap (λ (t : Received). t .answer) (desk-laws .fill-C0 (l .desk)),
+          );
+      fillsFF = λ l r rs o κs a e t p g m.
+          let k = handed-at l (a .0) (now (a .1 .0)) _ t p g m in (
+            ap handedBench k ∙ sym (ap (λ (x : List Rig). benchAt (lose proved l FF x)) o),
+            ap (λ (t : Handed). t .answer) k ∙ ap (λ (t : Received). t .answer) (desk-laws .fill-FF (l .desk)),
+          );
+      idles = λ l b m. m;
+      idlesC0 = λ l κs a e t p g m.
+          let k = handed-at l (a .0) (now (a .1 .0)) _ t p g m in
+          (ap handedBench k, ap (λ (t : Handed). t .answer) k ∙ ap (λ (t : Received). t .answer) (desk-laws .fill-C0 (l .desk)));
+      idlesFF = λ l κs a e t p g m.
+          let k = handed-at l (a .0) (now (a .1 .0)) _ t p g m in
+          (ap handedBench k, ap (λ (t : Handed). t .answer) k ∙ ap (λ (t : Received). t .answer) (desk-laws .fill-FF (l .desk)));
+      frame17 = λ l f n κs a e t p g m.
+          let k = handed-at l (a .0) (now (a .1 .0)) f t p g m in
+          (ap handedBench k, ap (λ (t : Handed). t .answer) k ∙ ap (λ (t : Received). t .answer) (desk-laws .refused (l .desk) f n));
+      whole = λ l o κs a e t p h m.
+          let s = now (a .1 .0) in
+          let at = a .1 .1 .0 in
+          ap sentBench (m .0 ∙ ap (λ (b : Bench). arrivedBench b s at) p) ∙ arrived-bench l s at o h;
+      lost = λ l o κs a e t p h m.
+          let s = now (a .1 .0) in
+          let at = a .1 .1 .0 in
+          ap sentBench (m .0 ∙ ap (λ (b : Bench). lostBench b s at) p) ∙ lost-bench l s at o h;
+      asks-build = λ κs a. tt;
+      asks-hand = λ κs a. tt;
+      asks-miss = λ b. tt;
+      asks-arrives = λ κs a. tt;
+      asks-lost = λ κs a. tt;
     }

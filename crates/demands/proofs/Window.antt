@@ -20,7 +20,8 @@ use Rattle.rig.specs.declared.Rig.{Rig}
 use Rattle.sending.specs.Sending.{sent}
 use Rattle.demands.specs.History.{held, Slot, whole}
 use Rattle.demands.proofs.Shown.{Run, broken, from, back, known, brought, shownOf, back-one, back-more}
-use Rattle.demands.specs.World.{Event, arrives, World, proved, start, next, run}
+use Rattle.demands.specs.Outfit.{proved}
+use Rattle.demands.specs.AtOnce.{Event, arrives, World, start, next, run}
 use Rattle.demands.proofs.Invariant.{runs, after, good}
 
 -- the rig after m frames, and the history with m whole frames more

@@ -20,14 +20,22 @@ use Rattle.block.specs.Order.{numberIn, firstOf, partRefusals}
 use Rattle.event.specs.Event.{directOf}
 use Rattle.event.specs.Ifft.{eventOf, itemOf}
 use Rattle.event.specs.Order.{eventNumber, itemNumber, directRefusals, ifftRefusals}
-use Rattle.demands.specs.World.{Outfit}
+use Rattle.demands.specs.Outfit.{Outfit, fillC0, fillFF}
+use Rattle.demands.specs.Numbers.{Numbers}
+use Rattle.demands.specs.AnyDesk.{IsWhole}
 
 -- demand 1, of any rig and desk
 pub record Demand1For (o : Outfit) : Type 0 where
-  -- 03h-0Fh: what a word may move, by the reply it gets; a refusal moves error code, last invalid code and count, and ends a pending block
+  -- the numbers of the refusals
+  pub numbers : Numbers
+  -- 03h-0Fh: what a word may move, by the reply it gets; a refusal moves error code, last invalid code and count, and ends a
+  -- pending block
   pub words : ReplyLaws (o .rig .take)
   -- 17, a frame not of 40 bytes: nothing changes
   pub frame17 : (d : Desk) (f : List ℕ) → (length f ≡ 40 → ⊥) → o .slot d f ≡ answered (desk.Refused (numbered 17)) d
+  -- every 40 bytes, also those that no rig built: fill is a miss and told as one, all else is heard
+  pub fill : (d : Desk) → (o .slot d fillC0 ≡ answered desk.Missed (o .missed d)) × (o .slot d fillFF ≡ answered desk.Missed (o .missed d))
+  pub heard : (d : Desk) (f : List ℕ) → IsWhole f → o .slot d f .answer ≡ desk.Heard
   -- 18, fewer than 40 bytes from the named place on, or the place past the end: nothing changes in the rig or the buffer, no frame is used up
   pub room18 : (r : Rig) (b : List ℕ) (at : ℕ) → length b < at + 40
       → (o .build r b at ≡ record { rig = r; answer = wrote.Refused (numbered 18) }) × (o .filled r b at ≡ b)

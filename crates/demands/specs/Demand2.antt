@@ -2,7 +2,7 @@
 -- layout; nominal and burst blocks are taken apart by its tables. Assumes nothing.
 use mathlib.Core.Path.{_≡_}
 use mathlib.Core.Bool.{true, not}
-use mathlib.Core.List.{List}
+use mathlib.Core.List.{List, [], _∷_}
 use Prim.Native.Nat.{ℕ, _<_}
 use lib.Dec.{T}
 use lib.ListN.{length, getD}
@@ -21,20 +21,27 @@ use Rattle.power.specs.declared.PanelSetting.{PanelSetting}
 use Rattle.power.specs.Power.{setOf}
 use Rattle.sending.specs.Sending.{heldOf, sent}
 use Rattle.laws.specs.Rows.{RowLaws}
+use Rattle.laws.specs.Blocks.{BlockLaws}
 use Rattle.laws.specs.Runs.{Event, reached, RunLaws}
 use Rattle.block.specs.declared.Part.{Part}
 use Rattle.block.specs.Layout.{dumped, unread}
 use Rattle.block.specs.Parts.{locateOf, partOf}
 use Rattle.block.specs.Cover.{holders, nmHeld, bm1Held}
 use Rattle.event.specs.declared.Direction.{Direction}
-use Rattle.event.specs.Event.{dOf, hasD, directionOf}
-use Rattle.demands.specs.World.{Outfit}
+use Rattle.event.specs.declared.Direction.the-variants.{Head}
+use Rattle.event.specs.Event.{dOf, hasD, directionOf, eventAt}
+use Rattle.event.specs.Ifft.{itemAt}
+use Rattle.demands.specs.Outfit.{Outfit}
+use Rattle.demands.specs.Held.{HeldTable, Settles}
+use Rattle.demands.specs.AnyDesk.{SlotLaws}
 
 -- demand 2, of any rig and desk
 pub record Demand2For (o : Outfit) : Type 0 where
   -- each row of the command table: accepted exactly if .., and then exactly this moves; heads, data and end words, closed and swallowed blocks
   pub rows : RowLaws (o .rig .take)
-  -- the numbers of the refusals, the lists of codes, the bits that are read
+  -- a whole block, from its head to its end word, by the list of its data bytes
+  pub blocks : BlockLaws (o .rig .take)
+  -- the lists of codes, the bits that are read and those that are not
   pub table : TableLaws
   -- the start, as 01 lists it; a setting by the instructor moves that part of the panel alone
   pub start : o .rig .start ≡ startRig
@@ -51,14 +58,22 @@ pub record Demand2For (o : Outfit) : Type 0 where
   -- back as it is held
   pub shown : (es : List Event) (k : ℕ) → k < 25 → carries k (reached (o .rig) es .sending .next) ≡ true
       → readOf (o .frame (reached (o .rig) es)) k ≡ Value (heldAt (heldOf (reached (o .rig) es)) k)
-  -- what is written is what is read, item by item, and nothing else is told
+  -- what is written is what is read, item by item, and nothing else is told; the bits that are read, and those that are not
   pub layout : Laws
+  -- what each item is held as, and where a frame has it, by example, so that no two can be swapped
+  pub held : HeldTable o (λ r k. heldAt (heldOf r) k)
+  pub settles : Settles
+  -- one slot from any desk, whatever bytes it brings
+  pub desk : SlotLaws o
   -- blocks: every byte of an NM and of a BM1 block lies in exactly one part, inner marker or spare
   pub nm : (k : ℕ) → k < 512 → holders k nmHeld ≡ 1
   pub bm1 : (k : ℕ) → k < 2304 → holders k bm1Held ≡ 1
   -- with descriptor 1 bit 2 set neither descriptor 2 nor the inner markers are looked at
   pub dump : (b c : List ℕ) → length b ≡ length c → dumped b ≡ true → ((k : ℕ) → T (not (unread k)) → getD b k 0 ≡ getD c k 0)
       → (p : Part) → (locateOf b p ≡ locateOf c p) × (partOf b p ≡ partOf c p)
+  -- a direct event, and a matrix item, byte by byte
+  pub event : eventAt (0x12 ∷ 0x34 ∷ 0x5B ∷ []) 0 ≡ record { energy = 0x12; time = 0x34; sector = 5; direction = Head 3 3 }
+  pub item : itemAt (0x12 ∷ 0x34 ∷ 0x80 ∷ 0x04 ∷ []) 0 ≡ record { first = 0x1234; second = 0x8004; good = true }
   -- D and its direction: each gives the other back
   pub direction : (d : ℕ) → d < 16 → dOf (directionOf d) ≡ d
   pub back : (x : Direction) → T (hasD x) → directionOf (dOf x) ≡ x

@@ -1,9 +1,11 @@
--- The five frauds of 01 ("How tight each promise is"), each written as a rig or a desk, and which demand catches it.
+-- The five frauds of 01 ("How tight each promise is") and a sixth, each written as a rig or a desk, and which demand catches it.
 -- Assumes nothing.
 use mathlib.Core.Path.{_≡_}
 use mathlib.Core.Bool.{Bool, true, false}
 use mathlib.Core.List.{List, [], _∷_}
 use Prim.Native.Nat.{ℕ}
+use lib.Dec.{eqb}
+use lib.ListN.{length, getD}
 use Rattle.base.specs.Pick.{pick}
 use Rattle.base.specs.Counts.{frames}
 use Rattle.frame.specs.declared.Item.{Item}
@@ -12,9 +14,11 @@ use Rattle.desk.specs.declared.Desk.{Desk}
 use Rattle.desk.specs.declared.Cell.{Cell}
 use Rattle.desk.specs.declared.Shown.{Shown}
 use Rattle.desk.specs.declared.Shown.the-variants.{Unknown, Known}
-use Rattle.desk.specs.declared.Answer.the-variants.{Heard}
+use Rattle.desk.specs.declared.Answer.{Answer}
+use Rattle.desk.specs.declared.Answer.the-variants.{Heard, Missed, Refused}
 use Rattle.desk.specs.declared.Received.{Received}
 use Rattle.desk.specs.Desk.{bornAt, shownBy, freshDesk, slotOf, missedOf, shows}
+use Rattle.desk.specs.Laws.{answered}
 use Rattle.judge.specs.declared.Refusal.{Refusal}
 use Rattle.rig.specs.declared.Rig.{Rig}
 use Rattle.rig.specs.declared.Answer.the-variants as answer
@@ -22,7 +26,8 @@ use Rattle.rig.specs.declared.Reply.{Reply}
 use Rattle.rig.specs.declared.Reply.the-variants.{Plain, Swallowed, Dropped}
 use Rattle.rig.specs.declared.Taken.{Taken}
 use Rattle.rig.specs.Words.{withFaults, takeOf}
-use Rattle.demands.specs.World.{Outfit}
+use Rattle.demands.specs.Outfit.{Outfit}
+use Rattle.demands.specs.Demand1.{Demand1For}
 use Rattle.demands.specs.Demand2.{Demand2For}
 use Rattle.demands.specs.Demand3.{Demand3For}
 use Rattle.demands.specs.One.{deskOf, rigOf}
@@ -89,6 +94,22 @@ uncounted r w =
     let t = takeOf r w in
     record { rig = withFaults (t .rig) (record { error = t .rig .faults .error; last = t .rig .faults .last; count = 0 }); reply = t .reply }
 
+-- 6. a desk that takes every foreign frame with byte 3 not 0 for a miss, though 01 says that byte 3 is not read, and tells whole frames as missed and fill
+-- as heard; of the frames that a rig builds it shows what it should
+abbrev pub told : Answer → Answer
+told Heard = Missed
+told Missed = Heard
+told (Refused why) = Refused why
+
+abbrev pub lied : Received → Received
+lied r = record { answer = told (r .answer); desk = r .desk }
+
+abbrev pub snubs : Desk → List ℕ → Received
+snubs d f = pick (eqb (length f) 40) (pick (eqb (getD f 3 0) 0) (slotOf d f) (answered Missed (missedOf d))) (slotOf d f)
+
+abbrev pub snob : Outfit
+snob = deskOf freshDesk (λ d f. lied (snubs d f)) missedOf ours-look
+
 -- which demand catches each
 pub record Caught : Type 0 where
   -- demand 2
@@ -104,3 +125,6 @@ pub record Caught : Type 0 where
   pub pretends : Demand3For pretender → ⊥
   -- demand 3: the true age
   pub ages : Demand3For flatterer → ⊥
+  -- demand 1: what is told of the bytes; demand 2: bits that are not named change nothing
+  pub lies : Demand1For snob → ⊥
+  pub snubs : Demand2For snob → ⊥

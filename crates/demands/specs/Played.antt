@@ -1,45 +1,114 @@
--- Each event of the world is what the functions of `bench` and `slots` do to the world's rig and desk: the definitions that they are proved to meet.
--- So the demands, said of runs of events, are said of code that runs. Assumes nothing.
+-- Each step of a run (specs/Queue) is what the functions of `bench` and `slots` do to its rig and desk: said of each function's own contract (`Reads.Pre`,
+-- `Reads.Post`), so that a changed `requires` or `ensures` is seen here. So the demands, said of runs, are said of code that runs. Assumes nothing.
+-- Where a slice is lent, a is the arguments and e what the call leaves of them.
 use mathlib.Core.Path.{_≡_}
-use mathlib.Core.List.{List}
+use mathlib.Core.List.{List, [], _∷_}
 use Prim.Native.Nat.{ℕ, _+_, _≤_, _<_}
-use lib.ListN.{length}
+use lib.ListN.{length, take, drop}
+use contract.Lifetimes.{Lfts}
+use denote.Ref.{now}
+use denote.Triple.Clauses.{AtExit}
+use borrow.Fn.Kinds.{Dens, endedOf}
+use Rattle.frame.specs.declared.Wrote.the-variants as wrote
+use Rattle.frame.specs.Items.{numbered}
+use Rattle.desk.specs.declared.Answer.the-variants as desk
 use Rattle.power.specs.declared.PanelSetting.{PanelSetting}
+use Rattle.rig.specs.declared.Rig.{Rig}
 use Rattle.bench.specs.declared.Bench.{Bench}
-use Rattle.bench.specs.Bench.{freshBench, wordedOf, spunBench, setBench, cutBench}
-use Rattle.slots.specs.Slots.{builtBench, handedOf, missedBench, arrivedBench}
+use Rattle.bench.specs.declared.Worded.{Worded}
+use Rattle.bench.proofs.fresh.Reads as fresh-fn
+use Rattle.bench.proofs.word.Reads as word-fn
+use Rattle.bench.proofs.spin.Reads as spin-fn
+use Rattle.bench.proofs.set.Reads as set-fn
+use Rattle.bench.proofs.power_cut.Reads as cut-fn
+use Rattle.slots.specs.declared.Sent.{Sent}
+use Rattle.slots.specs.declared.Handed.{Handed}
+use Rattle.slots.proofs.build.Reads as build-fn
+use Rattle.slots.proofs.build.Kinds as build-kinds
+use Rattle.slots.proofs.hand.Reads as hand-fn
+use Rattle.slots.proofs.hand.Kinds as hand-kinds
+use Rattle.slots.proofs.miss.Reads as miss-fn
+use Rattle.slots.proofs.arrives.Reads as arrives-fn
+use Rattle.slots.proofs.arrives.Kinds as arrives-kinds
+use Rattle.slots.proofs.lost.Reads as lost-fn
+use Rattle.slots.proofs.lost.Kinds as lost-kinds
 use Rattle.laws.specs.Runs.{FitsPanel}
-use Rattle.demands.specs.World.{World, proved, start, next, fillC0, fillFF, Event, word, spin, set, cut, arrives, lost, lostC0, lostFF, idle, idleC0, idleFF, noRoom, torn}
+use Rattle.demands.specs.Outfit.{proved, fillC0, fillFF}
+use Rattle.demands.specs.Queue.{Line, word, spin, set, cut, noRoom, marked, C0, FF, Step, alone, built, came, gone, idle, torn, begin, step}
 
--- the rig and the desk of a world
-abbrev pub benchOf : World → Bench
-benchOf w = record { rig = w .rig; desk = w .desk }
+-- the rig and the desk of a line, and after a step
+abbrev pub benchAt : Line → Bench
+benchAt l = record { rig = l .rig; desk = l .desk }
 
--- the bench after an event
-abbrev pub afterIt : World → Event → Bench
-afterIt w e = benchOf (next proved w e)
+abbrev pub then : Line → Step → Line
+then l s = step proved l s
 
--- the bench whose next frame is built at a place of the buffer b
-abbrev pub builtAt : World → List ℕ → ℕ → Bench
-builtAt w b at = builtBench (benchOf w) b at .bench
+-- the oldest frame on its way, with those behind it
+abbrev pub Oldest : Line → Rig → List Rig → Type 0
+Oldest l r rs = l .way ≡ r ∷ rs
 
--- event by event, what the code does
-pub record Played : Type 0 where
-  pub fresh : benchOf (start proved) ≡ freshBench
-  -- what happens to the rig alone
-  pub words : (w : World) (x : ℕ) (h : x < 0x10000) → afterIt w (word x h) ≡ wordedOf (benchOf w) x .bench
-  pub spins : (w : World) → afterIt w spin ≡ spunBench (benchOf w)
-  pub sets : (w : World) (s : PanelSetting) (h : FitsPanel s) → afterIt w (set s h) ≡ setBench (benchOf w) s
-  pub cuts : (w : World) → afterIt w cut ≡ cutBench (benchOf w)
-  -- a frame built, at any place of any buffer that has room, and its slot: whole, missed or fill
-  pub whole : (w : World) (b : List ℕ) (at : ℕ) → at + 40 ≤ length b → afterIt w arrives ≡ arrivedBench (benchOf w) b at .bench
-  pub misses : (w : World) (b : List ℕ) (at : ℕ) → at + 40 ≤ length b → afterIt w lost ≡ missedBench (builtAt w b at)
-  pub fillsC0 : (w : World) (b : List ℕ) (at : ℕ) → at + 40 ≤ length b → afterIt w lostC0 ≡ handedOf (builtAt w b at) fillC0 .bench
-  pub fillsFF : (w : World) (b : List ℕ) (at : ℕ) → at + 40 ≤ length b → afterIt w lostFF ≡ handedOf (builtAt w b at) fillFF .bench
-  -- a slot with no frame built
-  pub idles : (w : World) → afterIt w idle ≡ missedBench (benchOf w)
-  pub idlesC0 : (w : World) → afterIt w idleC0 ≡ handedOf (benchOf w) fillC0 .bench
-  pub idlesFF : (w : World) → afterIt w idleFF ≡ handedOf (benchOf w) fillFF .bench
-  -- 18 and 17
-  pub room18 : (w : World) (b : List ℕ) (at : ℕ) (h : length b < at + 40) → afterIt w (noRoom b at h) ≡ builtAt w b at
-  pub frame17 : (w : World) (f : List ℕ) (h : length f ≡ 40 → ⊥) → afterIt w (torn f h) ≡ handedOf (benchOf w) f .bench
+-- what a call of a function that lends a slice leaves of its arguments
+abbrev pub BuildExit : Lfts 1 → Type 0
+BuildExit κs = AtExit (endedOf 1 build-kinds.ps build-kinds.r) κs
+
+abbrev pub HandExit : Lfts 1 → Type 0
+HandExit κs = AtExit (endedOf 1 hand-kinds.ps hand-kinds.r) κs
+
+-- bytes f handed over at the line l: what the call answers, and the bench it leaves
+abbrev pub Handing : Line → List ℕ → (Handed → Type 0) → Type 0
+Handing l f P =
+    (κs : Lfts 1) (a : Dens κs hand-kinds.ps) (e : HandExit κs) (t : Handed) → a .0 ≡ benchAt l → now (a .1 .0) ≡ f → hand-fn.Post κs a t e → P t
+
+-- what happens to the rig alone
+pub record PlayedAlone : Type 0 where
+  pub fresh : (b : Bench) → fresh-fn.Post tt tt b tt → b ≡ benchAt (begin proved)
+  pub words : (l : Line) (x : ℕ) (h : x < 0x10000) (t : Worded) → word-fn.Post tt (benchAt l, (x, tt)) t (benchAt l, (x, tt))
+      → (t .bench ≡ benchAt (then l (alone (word x h)))) × (t .reply ≡ proved .rig .take (l .rig) x .reply)
+  pub spins : (l : Line) (b : Bench) → spin-fn.Post tt (benchAt l, tt) b (benchAt l, tt) → b ≡ benchAt (then l (alone spin))
+  pub sets : (l : Line) (s : PanelSetting) (h : FitsPanel s) (b : Bench) → set-fn.Post tt (benchAt l, (s, tt)) b (benchAt l, (s, tt))
+      → b ≡ benchAt (then l (alone (set s h)))
+  pub cuts : (l : Line) (b : Bench) → cut-fn.Post tt (benchAt l, tt) b (benchAt l, tt) → b ≡ benchAt (then l (alone cut))
+  -- they ask nothing
+  pub asks-fresh : fresh-fn.Pre tt tt
+  pub asks-word : (b : Bench) (x : ℕ) → word-fn.Pre tt (b, (x, tt))
+  pub asks-spin : (b : Bench) → spin-fn.Pre tt (b, tt)
+  pub asks-set : (b : Bench) (s : PanelSetting) → set-fn.Pre tt (b, (s, tt))
+  pub asks-cut : (b : Bench) → cut-fn.Pre tt (b, tt)
+
+-- frames and slots
+pub record PlayedSlots : Type 0 where
+  -- a frame built, at any place of any buffer with room; and where there is none (18)
+  pub builds : (l : Line) (κs : Lfts 1) (a : Dens κs build-kinds.ps) (e : BuildExit κs) (t : Sent)
+      → a .0 ≡ benchAt l → a .1 .1 .0 + 40 ≤ length (now (a .1 .0)) → build-fn.Post κs a t e
+      → (t .bench ≡ benchAt (then l built)) × (t .wrote ≡ wrote.Done)
+  pub room18 : (l : Line) (κs : Lfts 1) (a : Dens κs build-kinds.ps) (e : BuildExit κs) (t : Sent)
+      → a .0 ≡ benchAt l → (h : length (now (a .1 .0)) < a .1 .1 .0 + 40) → build-fn.Post κs a t e
+      → (t .bench ≡ benchAt (then l (alone (noRoom (now (a .1 .0)) (a .1 .1 .0) h)))) × (t .wrote ≡ wrote.Refused (numbered 18)) × (e .1 .0 .now ≡ now (a .1 .0))
+  -- The oldest frame on its way arrives: it was built by a call of `build` with the rig as it then was, in whatever buffer, and the very bytes that this
+  -- call left at its place are handed over.
+  pub hands : (l : Line) (r : Rig) (rs : List Rig) → Oldest l r rs
+      → (κs : Lfts 1) (a : Dens κs build-kinds.ps) (e : BuildExit κs) (q : Sent)
+      → a .0 .rig ≡ r → a .1 .1 .0 + 40 ≤ length (now (a .1 .0)) → build-fn.Post κs a q e
+      → Handing l (take 40 (drop (a .1 .1 .0) (e .1 .0 .now))) (λ t. (t .bench ≡ benchAt (then l came)) × (t .answer ≡ desk.Heard))
+  -- or a miss, or fill, in its place
+  pub misses : (l : Line) (r : Rig) (rs : List Rig) → Oldest l r rs → (b : Bench) → miss-fn.Post tt (benchAt l, tt) b (benchAt l, tt)
+      → b ≡ benchAt (then l (gone marked))
+  pub fillsC0 : (l : Line) (r : Rig) (rs : List Rig) → Oldest l r rs → Handing l fillC0 (λ t. (t .bench ≡ benchAt (then l (gone C0))) × (t .answer ≡ desk.Missed))
+  pub fillsFF : (l : Line) (r : Rig) (rs : List Rig) → Oldest l r rs → Handing l fillFF (λ t. (t .bench ≡ benchAt (then l (gone FF))) × (t .answer ≡ desk.Missed))
+  -- a slot for which no frame was built; and bytes of another length (17)
+  pub idles : (l : Line) (b : Bench) → miss-fn.Post tt (benchAt l, tt) b (benchAt l, tt) → b ≡ benchAt (then l (idle marked))
+  pub idlesC0 : (l : Line) → Handing l fillC0 (λ t. (t .bench ≡ benchAt (then l (idle C0))) × (t .answer ≡ desk.Missed))
+  pub idlesFF : (l : Line) → Handing l fillFF (λ t. (t .bench ≡ benchAt (then l (idle FF))) × (t .answer ≡ desk.Missed))
+  pub frame17 : (l : Line) (f : List ℕ) (n : length f ≡ 40 → ⊥)
+      → Handing l f (λ t. (t .bench ≡ benchAt (then l (torn f n))) × (t .answer ≡ desk.Refused (numbered 17)))
+  -- built and handed over in one, or built and lost in one: with nothing on its way, the two steps one after the other
+  pub whole : (l : Line) → l .way ≡ [] → (κs : Lfts 1) (a : Dens κs arrives-kinds.ps) (e : AtExit (endedOf 1 arrives-kinds.ps arrives-kinds.r) κs) (t : Sent)
+      → a .0 ≡ benchAt l → a .1 .1 .0 + 40 ≤ length (now (a .1 .0)) → arrives-fn.Post κs a t e → t .bench ≡ benchAt (then (then l built) came)
+  pub lost : (l : Line) → l .way ≡ [] → (κs : Lfts 1) (a : Dens κs lost-kinds.ps) (e : AtExit (endedOf 1 lost-kinds.ps lost-kinds.r) κs) (t : Sent)
+      → a .0 ≡ benchAt l → a .1 .1 .0 + 40 ≤ length (now (a .1 .0)) → lost-fn.Post κs a t e → t .bench ≡ benchAt (then (then l built) (gone marked))
+  -- they ask nothing
+  pub asks-build : (κs : Lfts 1) (a : Dens κs build-kinds.ps) → build-fn.Pre κs a
+  pub asks-hand : (κs : Lfts 1) (a : Dens κs hand-kinds.ps) → hand-fn.Pre κs a
+  pub asks-miss : (b : Bench) → miss-fn.Pre tt (b, tt)
+  pub asks-arrives : (κs : Lfts 1) (a : Dens κs arrives-kinds.ps) → arrives-fn.Pre κs a
+  pub asks-lost : (κs : Lfts 1) (a : Dens κs lost-kinds.ps) → lost-fn.Pre κs a

@@ -1,15 +1,15 @@
 -- What a word keeps: the bounds of the core and of the pending block (by the cases of a word), and the ledger's account of the faults (by the reply).
 -- Assumes nothing.
-use Prim.Native.Nat.{ℕ, zero, suc, _+_, _%_, _<_, _≤_}
+use Prim.Native.Nat.{ℕ, _+_, _/_, _%_, _<_, _≤_}
 use mathlib.Core.Path.{_≡_, refl, ap, sym, _∙_}
 use mathlib.Core.Bool.{Bool, true, false, true≢false}
-use mathlib.Core.List.{List, [], _∷_, _++_}
+use mathlib.Core.List.{[], _∷_}
 use native.Mathlib.Nat.{add-zero}
 use native.Mathlib.Omega.{arith}
 use lib.Dec.{eqb}
 use lib.ListN.{length}
 use Rattle.base.specs.Pick.{pick}
-use Rattle.crc.specs.Crc.{crcByte, crcFrom, crcOf}
+use Rattle.crc.specs.Crc.{crcByte, crcFrom}
 use Rattle.crc.proofs.Laws.{laws}
 use Rattle.judge.specs.declared.Verdict.the-variants.{Apply, Deny}
 use Rattle.judge.specs.Refusals.{numberOf}
@@ -21,16 +21,15 @@ use Rattle.rig.specs.declared.Reply.{Reply}
 use Rattle.rig.specs.declared.Reply.the-variants.{Plain, Swallowed, Dropped}
 use Rattle.rig.specs.declared.Judgement.{Judgement}
 use Rattle.rig.specs.declared.Taken.{Taken}
-use Rattle.rig.specs.Words.{highOf, nothingPending, newBlock, oneMore, settledOf, refusedOf}
+use Rattle.rig.specs.Words.{nothingPending, newBlock, oneMore, settledOf, refusedOf}
 use Rattle.rig.specs.Replies.{refusalsOf}
-use Rattle.laws.specs.Replies.{booked, bookedDrop, After}
-use Rattle.laws.specs.Blocks.{holding}
-use Rattle.laws.specs.Runs.{named, latestError, latestCode}
+use Rattle.laws.specs.Results.{booked}
+use Rattle.laws.specs.Replies.{bookedDrop, After}
+use Rattle.laws.specs.Runs.{codes, oneOf, latestError, latestCode}
 use Rattle.laws.proofs.Tests.{by-test}
 use Rattle.laws.proofs.Commands.{CoreFits}
 use Rattle.laws.proofs.Words.{Fresh, judged, begun, Case, idle, kept, closed, swallowed, again}
 use Rattle.laws.proofs.Replies.{number-is}
-use Rattle.laws.proofs.Blocks.{more}
 
 -- the check goes on as a byte
 check-small : (c b : ℕ) → c < 0x100 → b < 0x100 → crcByte c b < 0x100
@@ -72,7 +71,7 @@ fresh-fits (judged (Apply c) k) a h = (k (h .0), h .1)
 fresh-fits (judged (Deny why) k) a h = h
 fresh-fits {high = high} {low = low} (begun k) a h = (h .0, new-fits high low a k)
 
-pub word-fits : {r : Rig} {high low : ℕ} {b k : Bool} {t : Taken} → Case r high low b k t → high < 0x100 → low < 0x100 → Fits r → Fits (t .rig)
+pub word-fits : {r : Rig} {high low : ℕ} {b : Bool} {t : Taken} → Case r high low b t → high < 0x100 → low < 0x100 → Fits r → Fits (t .rig)
 unfolding settledOf refusedOf
 word-fits (idle e j f) a l h = fresh-fits f a h
 word-fits {r} {low = low} (kept e k) a l h = (h .0, more-fits (r .pending) low e k l (h .1))
@@ -81,53 +80,38 @@ word-fits (closed e (Deny why) k) a l h = (h .0, nothing-fits)
 word-fits (swallowed e) a l h = (h .0, nothing-fits)
 word-fits (again e j f) a l h = fresh-fits f a (h .0, nothing-fits)
 
--- a block that waits is its head and the bytes that were kept
-abbrev pub Holds : Pending → List ℕ → Type 0
-Holds p s = p .waiting ≡ true → p ≡ holding (p .head) (p .n) s
-
-fresh-holds : {r : Rig} {high low : ℕ} {j : Judgement} → Fresh r high low j → r .pending .waiting ≡ false → Holds (j .rig .pending) []
-unfolding settledOf refusedOf crcOf crcFrom
-fresh-holds (judged (Apply c) k) e w = absurd (true≢false (sym w ∙ e))
-fresh-holds (judged (Deny why) k) e w = absurd (true≢false (sym w ∙ e))
-fresh-holds (begun k) e w = refl
-
-pub word-holds : {r : Rig} {high low : ℕ} {b k : Bool} {t : Taken} (s : List ℕ) → Case r high low b k t → Holds (r .pending) s
-    → Holds (t .rig .pending) (pick k (s ++ (low ∷ [])) [])
-unfolding settledOf refusedOf
-word-holds s (idle e j f) h = fresh-holds f e
-word-holds {r} {low = low} s (kept e k) h = λ w. ap (λ (p : Pending). oneMore p low) (h e) ∙ more (r .pending .head) (r .pending .n) s low
-word-holds s (closed e (Apply c) k) h = λ w. absurd (true≢false (sym w))
-word-holds s (closed e (Deny why) k) h = λ w. absurd (true≢false (sym w))
-word-holds s (swallowed e) h = λ w. absurd (true≢false (sym w))
-word-holds s (again e j f) h = fresh-holds f refl
-
 -- The faults f after n refusals, of which the latest had that number and byte.
 pub record Told (f : Faults) (n number byte : ℕ) : Type 0 where
   pub count : f .count ≡ n % 256
   pub error : f .error ≡ number
   pub last : f .last ≡ byte
   pub small : f .error ≤ 15
+  pub known : oneOf codes (f .error) ≡ true
   pub fits : f .last < 0x100
 
-book : {f : Faults} {n e l : ℕ} (high number : ℕ) → Told f n e l → high < 0x100 → number ≤ 15 → Told (booked f high number) (n + 1) number high
-book high number h a b = record { count = omega arith; error = refl; last = refl; small = b; fits = a }
+book : {f : Faults} {n e l : ℕ} (high number : ℕ) → Told f n e l → high < 0x100 → number ≤ 15 → oneOf codes number ≡ true → Told (booked f high number) (n + 1) number high
+book high number h a b k = record { count = omega arith; error = refl; last = refl; small = b; known = k; fits = a }
+
+-- the byte that a refusal names, of the rig's own record
+abbrev named : Rig → ℕ → ℕ
+named r w = pick (r .pending .waiting) (r .pending .head) (w / 256)
 
 -- a dropped block is booked under its head's byte, which is what it is named by
 dropped-told : (r q : Rig) (w n e l : ℕ) → r .pending .waiting ≡ true → q .faults ≡ bookedDrop r → r .pending .head < 0x100 → Told (r .faults) n e l
     → Told (q .faults) (n + 1) 0x03 (named r w)
 dropped-told r q w n e l p f a h =
-    let head : named r w ≡ r .pending .head = ap (λ (b : Bool). pick b (r .pending .head) (highOf w)) p in
-    rw (f, head) (book (r .pending .head) 0x03 h a (omega arith))
+    let head : named r w ≡ r .pending .head = ap (λ (b : Bool). pick b (r .pending .head) (w / 256)) p in
+    rw (f, head) (book (r .pending .head) 0x03 h a (omega arith) refl)
 
-pub told : (r q : Rig) (w : ℕ) (y : Reply) (n e l : ℕ) → After r w q y → r .pending .head < 0x100 → highOf w < 0x100 → Told (r .faults) n e l
-    → Told (q .faults) (n + length (refusalsOf y)) (latestError e y) (latestCode l r w y)
+pub told : (r q : Rig) (w : ℕ) (y : Reply) (n e l : ℕ) → After r w q y → r .pending .head < 0x100 → w / 256 < 0x100 → Told (r .faults) n e l
+    → Told (q .faults) (n + length (refusalsOf y)) (latestError e y) (latestCode l (named r w) (w / 256) y)
 told r q w (Plain Accepted) n e l m a b h = rw (m .0, add-zero n) h
 told r q w (Plain Waiting) n e l m a b h = rw (m .1, add-zero n) h
 told r q w (Plain (Refused why)) n e l m a b h =
-    rw (m .1) (book (named r w) (numberOf why) h (by-test (_< 0x100) (r .pending .waiting) (λ p. a) (λ p. b)) (number-is why .0))
+    rw (m .1) (book (named r w) (numberOf why) h (by-test (_< 0x100) (r .pending .waiting) (λ p. a) (λ p. b)) (number-is why .0) (number-is why .2))
 told r q w Swallowed n e l m a b h = dropped-told r q w n e l (m .0) (m .2) a h
 told r q w (Dropped Accepted) n e l m a b h = dropped-told r q w n e l (m .0) (m .1) a h
 told r q w (Dropped Waiting) n e l m a b h = dropped-told r q w n e l (m .0) (m .2) a h
 told r q w (Dropped (Refused why)) n e l m a b h =
     let two : n + 1 + 1 ≡ n + 2 = omega arith in
-    rw (m .2) (rw two at (book (highOf w) (numberOf why) (book (r .pending .head) 0x03 h a (omega arith)) b (number-is why .0)))
+    rw (m .2) (rw two at (book (w / 256) (numberOf why) (book (r .pending .head) 0x03 h a (omega arith) refl) b (number-is why .0) (number-is why .2)))

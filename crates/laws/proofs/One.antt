@@ -1,37 +1,25 @@
 -- The laws of the rows and of the replies leave one function of rigs and words (specs/Rows, OneRig): by the word's kind and code.
 -- Assumes nothing.
-use Prim.Native.Nat.{ℕ, _/_, _<_}
+use Prim.Native.Nat.{ℕ, _/_, _%_, _<_}
 use mathlib.Core.Path.{_≡_, refl, ap, sym, _∙_}
-use mathlib.Core.Bool.{Bool, true, false}
+use mathlib.Core.Logic.{inl, inr}
 use native.Mathlib.Omega.{arith}
 use lib.Dec.{eqb, ltb}
 use borrow.Author.Tests.{eqb-true, eqb-false, ltb-true, ltb-false}
-use Rattle.base.specs.Pick.{pick}
 use Rattle.base.proofs.Cases.{split}
 use Rattle.rig.specs.declared.Kind.{Kind}
 use Rattle.rig.specs.declared.Kind.the-variants.{Single, Head, Data, End}
 use Rattle.rig.specs.declared.Rig.{Rig}
 use Rattle.rig.specs.declared.Taken.{Taken}
-use Rattle.rig.specs.Words.{highOf, lowOf, kindOf, keeps, refusedOf, dropped}
-use Rattle.laws.specs.Replies.{judgedAfresh, afterwards, closing, ReplyLaws}
-use Rattle.laws.specs.Rows.{single, Idle, ExactlyOne, Unlisted, RowLaws, OneRig}
+use Rattle.rig.specs.Words.{highOf, kindOf}
+use Rattle.laws.specs.Results.{droppedRig}
+use Rattle.laws.specs.Replies.{afterwards, ReplyLaws}
+use Rattle.laws.specs.Rows.{single, Idle, Waits, ExactlyOne, Unlisted, RowLaws, OneRig}
+use Rattle.laws.proofs.WordKinds.{IsKind, kind-of}
 
 -- two things told by the one x of a table are one
 agree : {A : Type 0} {P : A → Type 0} {f : A → Taken} {s t : Taken} → ExactlyOne P (λ x. s ≡ f x) → ExactlyOne P (λ x. t ≡ f x) → s ≡ t
 agree {f = f} a b = a .then ∙ ap f (b .alone (a .one) (a .is)) ∙ sym (b .then)
-
--- the code of a single is below 64
-first-kind : (a b c : Bool) → pick a Single (pick b Head (pick c Data End)) ≡ Single → a ≡ true
-first-kind true b c e = refl
-first-kind false true c e = cc
-first-kind false false true e = cc
-first-kind false false false e = cc
-
-single-code : (high : ℕ) → kindOf high ≡ Single → high < 64
-unfolding kindOf
-single-code high e =
-    let f = eqb-true (high / 64) 0 (first-kind (eqb (high / 64) 0) (eqb (high / 64) 1) (eqb (high / 64) 2) e) in
-    omega arith
 
 module _ (take other : Rig → ℕ → Taken) (mine : RowLaws take) (yours : RowLaws other) where
   -- a single, by its code
@@ -48,37 +36,47 @@ module _ (take other : Rig → ℕ → Taken) (mine : RowLaws take) (yours : Row
       mine .unknown r code low h l i u ∙ sym (yours .unknown r code low h l i u))))))))
 
   -- with nothing pending
-  idle : (r : Rig) (w : ℕ) (k : Kind) → Idle r → kindOf (highOf w) ≡ k → take r w ≡ other r w
+  idle : (r : Rig) (w : ℕ) (k : Kind) → Idle r → IsKind (w / 0x4000) k → take r w ≡ other r w
   idle r w Single i e =
-      let f : w ≡ single (highOf w) (lowOf w) = omega arith in
-      rw f (singles r (highOf w) (lowOf w) (single-code (highOf w) e) (omega arith) i)
+      let f : w ≡ single (w / 256) (w % 256) = omega arith in
+      rw f (singles r (w / 256) (w % 256) (omega arith) (omega arith) i)
   idle r w Head i e =
-      split (ltb 79 (lowOf w))
-      (λ l. let h = ltb-true 79 (lowOf w) l in mine .long r w i e h ∙ sym (yours .long r w i e h))
-      (λ l. let h = ltb-false 79 (lowOf w) l in mine .waits r w i e h ∙ sym (yours .waits r w i e h))
+      split (ltb 79 (w % 256))
+      (λ l. let h = ltb-true 79 (w % 256) l in mine .long r w i e h ∙ sym (yours .long r w i e h))
+      (λ l. let h = ltb-false 79 (w % 256) l in mine .waits r w i e h ∙ sym (yours .waits r w i e h))
   idle r w Data i e = mine .strayData r w i e ∙ sym (yours .strayData r w i e)
   idle r w End i e = mine .strayEnd r w i e ∙ sym (yours .strayEnd r w i e)
 
   -- a word judged afresh after a drop, which leaves nothing pending
-  afresh : ReplyLaws take → ReplyLaws other → (r : Rig) (w : ℕ) {k : Kind} → r .pending .waiting ≡ true → kindOf (highOf w) ≡ k
-      → judgedAfresh (kindOf (highOf w)) ≡ true → take r w ≡ other r w
-  unfolding refusedOf
-  afresh a b r w {k} p e f =
-      a .afresh r w p f ∙ ap (λ (t : Taken). record { rig = t .rig; reply = afterwards (t .reply) }) (idle (dropped r) w k refl e) ∙ sym (b .afresh r w p f)
+  afresh : ReplyLaws take → ReplyLaws other → (r : Rig) (w : ℕ) (k : Kind) → Waits r → IsKind (w / 0x4000) k → w / 0x4000 < 2 → take r w ≡ other r w
+  afresh a b r w k p e h =
+      a .afresh r w p h
+      ∙ ap (λ (t : Taken). record { rig = t .rig; reply = afterwards (t .reply) }) (idle (droppedRig r (r .pending .head)) w k refl e)
+      ∙ sym (b .afresh r w p h)
 
   -- with a block pending
-  waiting : ReplyLaws take → ReplyLaws other → (r : Rig) (w : ℕ) (k : Kind) → r .pending .waiting ≡ true → kindOf (highOf w) ≡ k → take r w ≡ other r w
-  waiting a b r w Single p e = afresh a b r w p e (ap judgedAfresh e)
-  waiting a b r w Head p e = afresh a b r w p e (ap judgedAfresh e)
+  waiting : ReplyLaws take → ReplyLaws other → (r : Rig) (w : ℕ) (k : Kind) → Waits r → IsKind (w / 0x4000) k → take r w ≡ other r w
+  waiting a b r w Single p e = afresh a b r w Single p e (omega arith)
+  waiting a b r w Head p e = afresh a b r w Head p e (omega arith)
   waiting a b r w Data p e =
-      split (keeps (r .pending) (highOf w))
-      (λ k. mine .kept r w p e k ∙ sym (yours .kept r w p e k))
-      (λ k. mine .swallowedData r w p e k ∙ sym (yours .swallowedData r w p e k))
+      split (eqb (w / 256 % 64) (r .pending .head % 64))
+      (λ c.
+      let s = eqb-true _ _ c in
+      split (ltb (r .pending .got) (r .pending .n))
+      (λ l. let h = ltb-true _ _ l in mine .kept r w p e s h ∙ sym (yours .kept r w p e s h))
+      (λ l. let h = ltb-false _ _ l in mine .swallowedData r w p e (inr h) ∙ sym (yours .swallowedData r w p e (inr h))))
+      (λ c. let n = eqb-false _ _ c in mine .swallowedData r w p e (inl n) ∙ sym (yours .swallowedData r w p e (inl n)))
   waiting a b r w End p e =
-      split (closing r w)
-      (λ k. agree (mine .closed r w k) (yours .closed r w k))
-      (λ k. mine .swallowedEnd r w p e k ∙ sym (yours .swallowedEnd r w p e k))
+      split (eqb (w / 256 % 64) (r .pending .head % 64))
+      (λ c.
+      let s = eqb-true _ _ c in
+      split (eqb (r .pending .got) (r .pending .n))
+      (λ l. let h = eqb-true _ _ l in agree (mine .closed r w p e s h) (yours .closed r w p e s h))
+      (λ l. let h = eqb-false _ _ l in mine .swallowedEnd r w p e (inr h) ∙ sym (yours .swallowedEnd r w p e (inr h))))
+      (λ c. let n = eqb-false _ _ c in mine .swallowedEnd r w p e (inl n) ∙ sym (yours .swallowedEnd r w p e (inl n)))
 
 pub one-rig : OneRig
 one-rig take other mine a yours b r w =
-    split (r .pending .waiting) (λ p. waiting take other mine yours a b r w (kindOf (highOf w)) p refl) (λ i. idle take other mine yours r w (kindOf (highOf w)) i refl)
+    let k = kindOf (highOf w) in
+    let e = kind-of w k refl in
+    split (r .pending .waiting) (λ p. waiting take other mine yours a b r w k p e) (λ i. idle take other mine yours r w k i e)

@@ -1,6 +1,6 @@
 -- What a word may move, by its reply (specs/Replies): by the cases of a word, and in each by the verdict.
 -- Assumes nothing.
-use Prim.Native.Nat.{ℕ, _≤_}
+use Prim.Native.Nat.{ℕ, _/_, _<_, _≤_}
 use mathlib.Core.Path.{_≡_, refl, ap, sym, _∙_}
 use mathlib.Core.Bool.{Bool, true}
 use native.Mathlib.Omega.{arith}
@@ -21,7 +21,10 @@ use Rattle.rig.specs.declared.Reply.the-variants.{Plain, Swallowed, Dropped}
 use Rattle.rig.specs.declared.Taken.{Taken}
 use Rattle.rig.specs.Words.{highOf, lowOf, kindOf, settledOf, refusedOf, freshOf, afterDrop, dropped, droppedOf, pendingOf, takeOf}
 use Rattle.rig.specs.Replies.{refusalsOf}
-use Rattle.laws.specs.Replies.{After, Apart, judgedAfresh, afterwards, Never, ReplyLaws}
+use Rattle.laws.specs.Results.{droppedRig}
+use Rattle.laws.specs.Replies.{After, Apart, afterwards, Never, ReplyLaws}
+use Rattle.laws.specs.Runs.{codes, oneOf}
+use Rattle.laws.proofs.WordKinds.{IsKind, kind-of, closing-is}
 use Rattle.laws.proofs.Words.{takes, judged, begun, Case, idle, kept, closed, swallowed, again, case}
 
 -- a rig in which nothing but core, faults, pending block and last check may differ
@@ -33,47 +36,48 @@ alike r c f p k = record { panel = refl; sending = refl; edbs = refl }
 abbrev Moved : Rig → ℕ → Bool → Taken → Type 0
 Moved r w b t = After r w (t .rig) (t .reply) × Apart r (t .rig) × (t .rig .check ≡ pick b (r .pending .check) (r .check))
 
-moved : (w : ℕ) {r : Rig} {b k : Bool} {t : Taken} → Case r (highOf w) (lowOf w) b k t → Moved r w b t
+moved : (w : ℕ) {r : Rig} {b : Bool} {t : Taken} → Case r (highOf w) (lowOf w) b t → Moved r w b t
 unfolding settledOf refusedOf
-moved w (idle e j (judged (Apply c) h)) = ((refl, e), alike _ _ _ _ _, refl)
-moved w (idle e j (judged (Deny why) h)) = ((record { core = refl; pending = e }, rw e refl), alike _ _ _ _ _, refl)
+moved w (idle e j (judged (Apply c) h)) = ((refl, rw e refl), alike _ _ _ _ _, refl)
+moved w (idle e j (judged (Deny why) h)) = ((record { core = refl; pending = rw e refl }, rw e refl), alike _ _ _ _ _, refl)
 moved w (idle e j (begun h)) = ((refl, refl, rw e refl), alike _ _ _ _ _, refl)
 moved w (kept e h) = ((refl, refl, rw e refl), alike _ _ _ _ _, refl)
-moved w (closed e (Apply c) h) = ((refl, refl), alike _ _ _ _ _, refl)
-moved w (closed e (Deny why) h) = ((record { core = refl; pending = refl }, rw e refl), alike _ _ _ _ _, refl)
-moved w (swallowed e) = ((e, record { core = refl; pending = refl }, refl), alike _ _ _ _ _, refl)
-moved w (again e j (judged (Apply c) h)) = ((e, refl, refl), alike _ _ _ _ _, refl)
-moved w (again e j (judged (Deny why) h)) = ((e, record { core = refl; pending = refl }, refl), alike _ _ _ _ _, refl)
+moved w (closed e (Apply c) h) = ((refl, rw e refl), alike _ _ _ _ _, refl)
+moved w (closed e (Deny why) h) = ((record { core = refl; pending = rw e refl }, rw e refl), alike _ _ _ _ _, refl)
+moved w (swallowed e) = ((e, record { core = refl; pending = rw e refl }, refl), alike _ _ _ _ _, refl)
+moved w (again e j (judged (Apply c) h)) = ((e, refl, rw e refl), alike _ _ _ _ _, refl)
+moved w (again e j (judged (Deny why) h)) = ((e, record { core = refl; pending = rw e refl }, refl), alike _ _ _ _ _, refl)
 moved w (again e j (begun h)) = ((e, refl, refl, refl), alike _ _ _ _ _, refl)
 
 -- a single or a head: the dropped rig has nothing pending, and takes the word by the same rule
-again-is : (r : Rig) (k : Kind) (high low : ℕ) → judgedAfresh k ≡ true
-    → pendingOf r k high low ≡ afterDrop (freshOf (dropped r) k high low)
+again-is : (r : Rig) (q : ℕ) (k : Kind) (high low : ℕ) → IsKind q k → q < 2 → pendingOf r k high low ≡ afterDrop (freshOf (dropped r) k high low)
 unfolding pendingOf droppedOf
-again-is r Single high low e = refl
-again-is r Head high low e = refl
-again-is r Data high low e = cc
-again-is r End high low e = cc
+again-is r q Single high low e h = refl
+again-is r q Head high low e h = refl
+again-is r q Data high low e h = absurd (omega arith)
+again-is r q End high low e h = absurd (omega arith)
 
-afresh : (r : Rig) (w : ℕ) → r .pending .waiting ≡ true → judgedAfresh (kindOf (highOf w)) ≡ true
-    → takeOf r w ≡ record { rig = takeOf (dropped r) w .rig; reply = afterwards (takeOf (dropped r) w .reply) }
+afresh : (r : Rig) (w : ℕ) → r .pending .waiting ≡ true → w / 0x4000 < 2
+    → let q = droppedRig r (r .pending .head) in takeOf r w ≡ record { rig = takeOf q w .rig; reply = afterwards (takeOf q w .reply) }
 unfolding refusedOf
-afresh r w e f =
+afresh r w e h =
     let k = kindOf (highOf w) in
-    takes r w e refl ∙ again-is r k (highOf w) (lowOf w) f ∙ ap (λ (t : Taken). record { rig = t .rig; reply = afterwards (t .reply) }) (sym (takes (dropped r) w refl refl))
+    takes r w e refl
+    ∙ again-is r (w / 0x4000) k (highOf w) (lowOf w) (kind-of w k refl) h
+    ∙ ap (λ (t : Taken). record { rig = t .rig; reply = afterwards (t .reply) }) (sym (takes (dropped r) w refl refl))
 
--- the number of a refusal: four bits, and never 07h
-pub number-is : (why : Refusal) → (numberOf why ≤ 15) × (numberOf why ≡ 0x07 → ⊥)
-number-is RelayOff = omega arith
-number-is Disabled = omega arith
-number-is OverLimit = omega arith
-number-is StrayWord = omega arith
-number-is RelayBits = omega arith
-number-is WrongCheck = omega arith
-number-is Unsettled = omega arith
-number-is OutOfRange = omega arith
-number-is WrongCount = omega arith
-number-is UnknownCode = omega arith
+-- the number of a refusal: four bits, one of those that there are, and never 07h
+pub number-is : (why : Refusal) → (numberOf why ≤ 15) × (numberOf why ≡ 0x07 → ⊥) × (oneOf codes (numberOf why) ≡ true)
+number-is RelayOff = (omega arith, λ e. omega arith, refl)
+number-is Disabled = (omega arith, λ e. omega arith, refl)
+number-is OverLimit = (omega arith, λ e. omega arith, refl)
+number-is StrayWord = (omega arith, λ e. omega arith, refl)
+number-is RelayBits = (omega arith, λ e. omega arith, refl)
+number-is WrongCheck = (omega arith, λ e. omega arith, refl)
+number-is Unsettled = (omega arith, λ e. omega arith, refl)
+number-is OutOfRange = (omega arith, λ e. omega arith, refl)
+number-is WrongCount = (omega arith, λ e. omega arith, refl)
+number-is UnknownCode = (omega arith, λ e. omega arith, refl)
 
 never : (y : Reply) → Never 0x07 (refusalsOf y)
 never (Plain Accepted) = tt
@@ -89,7 +93,7 @@ reply-laws =
     record {
       moves = λ r w. moved w (case r w) .0;
       apart = λ r w. moved w (case r w) .1;
-      check = λ r w. moved w (case r w) .2;
+      check = λ r w. moved w (case r w) .2 ∙ ap (λ (b : Bool). pick b (r .pending .check) (r .check)) (sym (closing-is r w));
       afresh = afresh;
       never07 = λ r w. never (takeOf r w .reply);
     }

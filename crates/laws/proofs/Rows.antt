@@ -1,9 +1,9 @@
 -- The command table row by row (specs/Rows). A row's one verdict is what its command's definition gives; that it is alone is the row's own table
 -- read the other way. The words of a row are put to the decoder's rule by arithmetic. Assumes nothing.
-use Prim.Native.Nat.{ℕ, _/_, _<_, _≤_}
+use Prim.Native.Nat.{ℕ, _/_, _%_, _<_, _≤_}
 use mathlib.Core.Path.{_≡_, refl, ap, sym, _∙_}
 use mathlib.Core.Bool.{Bool, true, false, _&&_}
-use mathlib.Core.Logic.{_↔_}
+use mathlib.Core.Logic.{_↔_, _⊎_, inl, inr}
 use native.Mathlib.Omega.{arith}
 use lib.Dec.{eqb}
 use borrow.Author.Tests.{eqb-true, eqb-false, eq-eqb, ne-eqb, lt-ltb, le-ltb}
@@ -19,43 +19,41 @@ use Rattle.judge.specs.declared.Verdict.{Verdict}
 use Rattle.judge.specs.declared.Verdict.the-variants.{Deny}
 use Rattle.judge.specs.declared.Refusal.the-variants.{StrayWord, WrongCount, UnknownCode}
 use Rattle.judge.specs.Commands.{carried, ielCmd, maskCmd, modeCmd, singleOf, countedOf, blockOf}
-use Rattle.rig.specs.declared.Kind.{Kind}
 use Rattle.rig.specs.declared.Kind.the-variants.{Single, Head, Data, End}
 use Rattle.rig.specs.declared.Pending.{Pending}
 use Rattle.rig.specs.declared.Rig.{Rig}
-use Rattle.rig.specs.declared.Answer.the-variants.{Waiting}
-use Rattle.rig.specs.declared.Reply.the-variants.{Plain, Swallowed}
-use Rattle.rig.specs.Words.{highOf, lowOf, kindOf, codeOf, keeps, closes, withPending, newBlock, oneMore, dropped, plain, settledOf, headOf, freshOf, verdictOf, closedOf, droppedOf, pendingOf, takeOf}
-use Rattle.laws.specs.Replies.{isEnd, closing}
-use Rattle.laws.specs.Rows.{single, Idle, ExactlyOne, SupplyRow, SettingRow, IelWhen, MaskWhen, ModeWhen, serial, parallel, other, Unlisted, PendingWhen, wrongCheck, unknown, wrongCount20, wrongCount23, wrongCount24, multiplexer, direction, energy, RowLaws}
-use Rattle.laws.proofs.Tests.{by-test, and-left, and-right}
+use Rattle.rig.specs.declared.Taken.{Taken}
+use Rattle.rig.specs.Words.{highOf, lowOf, codeOf, sameCode, keeps, closes, plain, settledOf, refusedOf, headOf, freshOf, verdictOf, closedOf, droppedOf, pendingOf, takeOf}
+use Rattle.laws.specs.Results.{opened, grown, refused, waiting, swallowed, outcome, supplied}
+use Rattle.laws.specs.Rows.{single, Idle, Waits, SameCode, ExactlyOne, SupplyRow, SettingRow, IelWhen, MaskWhen, ModeWhen, serial, parallel, other, Unlisted, PendingWhen, wrongCheck, unknown, wrongCount20, wrongCount23, wrongCount24, multiplexer, direction, energy, RowLaws}
+use Rattle.laws.proofs.Tests.{by-test, not-both}
 use Rattle.laws.proofs.Words.{takes}
+use Rattle.laws.proofs.WordKinds.{of-kind, settled-is, supplied-is}
 
 -- a single of a code, with nothing pending, is judged
-kind-single : (code : ℕ) → code < 64 → kindOf code ≡ Single
-unfolding kindOf
-kind-single code h = let e : code / 64 ≡ 0 = omega arith in simp e
-
 judged : (r : Rig) (code low : ℕ) → code < 64 → low < 256 → Idle r → takeOf r (single code low) ≡ plain (settledOf r code (singleOf (r .core) code low))
 unfolding freshOf
 judged r code low h l i =
     let e : highOf (single code low) ≡ code = omega arith in
     let f : lowOf (single code low) ≡ low = omega arith in
     let g : codeOf code ≡ code = omega arith in
-    takes r (single code low) i (ap kindOf e ∙ kind-single code h) ∙ rw (e, f, g)
+    let k : single code low / 0x4000 ≡ 0 = omega arith in
+    takes r (single code low) i (of-kind (single code low) Single k) ∙ rw (e, f, g)
 
--- A row: its rule gives the one x that its table allows, and the single is settled by what x tells.
-row : {A : Type 0} (code : ℕ) → code < 64 → (rule : Core → ℕ → A) (tells : Core → A → Verdict) (When : Core → ℕ → A → Type 0)
+-- A row: its rule gives the one x that its table allows, and the single comes to what x tells.
+row : {A : Type 0} (code : ℕ) → code < 64 → (rule : Core → ℕ → A) (tells : Core → A → Verdict) (results : Rig → ℕ → A → Taken)
+    → ((r : Rig) (high : ℕ) (x : A) → plain (settledOf r high (tells (r .core) x)) ≡ results r high x)
+    → (When : Core → ℕ → A → Type 0)
     → ((c : Core) (low : ℕ) → When c low (rule c low)) → ((c : Core) (low : ℕ) (x : A) → When c low x → x ≡ rule c low)
     → ((c : Core) (low : ℕ) → singleOf c code low ≡ tells c (rule c low))
     → (r : Rig) (low : ℕ) → low < 256 → Idle r
-    → ExactlyOne (When (r .core) low) (λ x. takeOf r (single code low) ≡ plain (settledOf r code (tells (r .core) x)))
-row code h rule tells When is alone cmd r low l i =
+    → ExactlyOne (When (r .core) low) (λ x. takeOf r (single code low) ≡ results r code x)
+row code h rule tells results told When is alone cmd r low l i =
     record {
       one = rule (r .core) low;
       is = is (r .core) low;
       alone = alone (r .core) low;
-      then = judged r code low h l i ∙ ap (λ (v : Verdict). plain (settledOf r code v)) (cmd (r .core) low);
+      then = judged r code low h l i ∙ ap (λ (v : Verdict). plain (settledOf r code v)) (cmd (r .core) low) ∙ told r code (rule (r .core) low);
     }
 
 -- a row of the supply: its table is the supply's, and says exactly when each answer is given
@@ -63,8 +61,14 @@ supply-row : (code : ℕ) → code < 64 → (rule : Supply → ℕ → Change) (
     → ((s : Supply) (low : ℕ) (ch : Change) → (rule s low ≡ ch) ↔ When s low ch)
     → ((c : Core) (low : ℕ) → singleOf c code low ≡ carried c (rule (c .supply) low)) → SupplyRow takeOf code When
 supply-row code h rule When when cmd =
-    row code h (λ c low. rule (c .supply) low) carried (λ c low. When (c .supply) low)
+    row code h (λ c low. rule (c .supply) low) carried supplied supplied-is (λ c low. When (c .supply) low)
     (λ c low. when (c .supply) low (rule (c .supply) low) .0 refl) (λ c low x w. sym (when (c .supply) low x .1 w)) cmd
+
+-- a row of the settings
+setting-row : (code : ℕ) → code < 64 → (rule : Core → ℕ → Verdict) (When : Core → ℕ → Verdict → Type 0)
+    → ((c : Core) (low : ℕ) → When c low (rule c low)) → ((c : Core) (low : ℕ) (v : Verdict) → When c low v → v ≡ rule c low)
+    → ((c : Core) (low : ℕ) → singleOf c code low ≡ rule c low) → SettingRow takeOf code When
+setting-row code h rule When = row code h rule (λ c v. v) outcome settled-is When
 
 relay08 : SupplyRow takeOf 0x08 RelayWhen
 unfolding singleOf
@@ -84,11 +88,11 @@ stepping2D = supply-row 0x2D (omega arith) switched StepWhen switched-when (λ c
 
 iel0C : SettingRow takeOf 0x0C IelWhen
 unfolding singleOf
-iel0C = row 0x0C (omega arith) ielCmd (λ c v. v) IelWhen (λ c low. refl) (λ c low x e. e) (λ c low. refl)
+iel0C = setting-row 0x0C (omega arith) ielCmd IelWhen (λ c low. refl) (λ c low x e. e) (λ c low. refl)
 
 mask26 : SettingRow takeOf 0x26 MaskWhen
 unfolding singleOf
-mask26 = row 0x26 (omega arith) maskCmd (λ c v. v) MaskWhen (λ c low. refl) (λ c low x e. e) (λ c low. refl)
+mask26 = setting-row 0x26 (omega arith) maskCmd MaskWhen (λ c low. refl) (λ c low x e. e) (λ c low. refl)
 
 mode-here : (c : Core) (low : ℕ) → ModeWhen c low (modeCmd c low)
 unfolding modeCmd
@@ -105,62 +109,54 @@ mode-alone c low v (other h) = let a : low ≡ 0 → ⊥ = λ e. omega arith in 
 
 mode2B : SettingRow takeOf 0x2B ModeWhen
 unfolding singleOf
-mode2B = row 0x2B (omega arith) modeCmd (λ c v. v) ModeWhen mode-here mode-alone (λ c low. refl)
+mode2B = setting-row 0x2B (omega arith) modeCmd ModeWhen mode-here mode-alone (λ c low. refl)
 
 unlisted : (c : Core) (code low : ℕ) → Unlisted code → singleOf c code low ≡ Deny UnknownCode
 unfolding singleOf
 unlisted c code low u =
     simp (ne-eqb _ _ (u .not08), ne-eqb _ _ (u .not0C), ne-eqb _ _ (u .not26), ne-eqb _ _ (u .not28), ne-eqb _ _ (u .not29), ne-eqb _ _ (u .not2B), ne-eqb _ _ (u .not2D))
 
-long : (r : Rig) (w : ℕ) → Idle r → kindOf (highOf w) ≡ Head → 79 < lowOf w → takeOf r w ≡ plain (settledOf r (highOf w) (Deny WrongCount))
-unfolding freshOf headOf
-long r w i e h = takes r w i e ∙ simp (lt-ltb 79 (lowOf w) h)
+-- a word with nothing pending that is refused whatever its code
+module _ (r : Rig) (w : ℕ) (i : Idle r) where
+  long : w / 0x4000 ≡ 1 → 79 < w % 256 → takeOf r w ≡ refused r (w / 256) WrongCount
+  unfolding freshOf headOf settledOf refusedOf
+  long e h = takes r w i (of-kind w Head e) ∙ simp (lt-ltb 79 (lowOf w) h)
 
-waits : (r : Rig) (w : ℕ) → Idle r → kindOf (highOf w) ≡ Head → lowOf w ≤ 79
-    → takeOf r w ≡ record { rig = withPending r (newBlock (highOf w) (lowOf w)); reply = Plain Waiting }
-unfolding freshOf headOf
-waits r w i e h = takes r w i e ∙ simp (le-ltb 79 (lowOf w) h)
+  waits : w / 0x4000 ≡ 1 → w % 256 ≤ 79 → takeOf r w ≡ waiting r (opened (w / 256) (w % 256))
+  unfolding freshOf headOf
+  waits e h = takes r w i (of-kind w Head e) ∙ simp (le-ltb 79 (lowOf w) h)
 
-strayData : (r : Rig) (w : ℕ) → Idle r → kindOf (highOf w) ≡ Data → takeOf r w ≡ plain (settledOf r (highOf w) (Deny StrayWord))
-unfolding freshOf
-strayData r w i e = takes r w i e
+  strayData : w / 0x4000 ≡ 2 → takeOf r w ≡ refused r (w / 256) StrayWord
+  unfolding freshOf settledOf refusedOf
+  strayData e = takes r w i (of-kind w Data e)
 
-strayEnd : (r : Rig) (w : ℕ) → Idle r → kindOf (highOf w) ≡ End → takeOf r w ≡ plain (settledOf r (highOf w) (Deny StrayWord))
-unfolding freshOf
-strayEnd r w i e = takes r w i e
+  strayEnd : 3 ≤ w / 0x4000 → takeOf r w ≡ refused r (w / 256) StrayWord
+  unfolding freshOf settledOf refusedOf
+  strayEnd h = takes r w i (of-kind w End h)
 
-kept : (r : Rig) (w : ℕ) → r .pending .waiting ≡ true → kindOf (highOf w) ≡ Data → keeps (r .pending) (highOf w) ≡ true
-    → takeOf r w ≡ record { rig = withPending r (oneMore (r .pending) (lowOf w)); reply = Plain Waiting }
-unfolding pendingOf
-kept r w p e k = takes r w p e ∙ rw k
+-- a data or end word that meets a block
+module _ (r : Rig) (w : ℕ) (p : Waits r) where
+  kept : w / 0x4000 ≡ 2 → SameCode r w → r .pending .got < r .pending .n → takeOf r w ≡ waiting r (grown (r .pending) (w % 256))
+  unfolding pendingOf
+  kept e c h = takes r w p (of-kind w Data e) ∙ rw (eq-eqb _ _ c, lt-ltb _ _ h, p) refl
 
-swallowedData : (r : Rig) (w : ℕ) → r .pending .waiting ≡ true → kindOf (highOf w) ≡ Data → keeps (r .pending) (highOf w) ≡ false
-    → takeOf r w ≡ record { rig = dropped r; reply = Swallowed }
-unfolding pendingOf droppedOf
-swallowedData r w p e k = takes r w p e ∙ rw k
+  swallowedData : w / 0x4000 ≡ 2 → (SameCode r w → ⊥) ⊎ (r .pending .n ≤ r .pending .got) → takeOf r w ≡ swallowed r (r .pending .head)
+  unfolding pendingOf droppedOf refusedOf
+  swallowedData e (inl ne) = takes r w p (of-kind w Data e) ∙ rw (ne-eqb _ _ ne)
+  swallowedData e (inr h) =
+      let f : keeps (r .pending) (highOf w) ≡ false = not-both (sameCode (r .pending) (highOf w)) _ (le-ltb _ _ h) in
+      takes r w p (of-kind w Data e) ∙ rw f
 
--- an end word, by whether it closes
-end-closes : (b : Bool) (k : Kind) (c d : Bool) → b ≡ true → k ≡ End → b && (isEnd k && c) ≡ d → c ≡ d
-end-closes b k c d p e h = rw (p, e) at h
+  swallowedEnd : 3 ≤ w / 0x4000 → (SameCode r w → ⊥) ⊎ (r .pending .got ≡ r .pending .n → ⊥) → takeOf r w ≡ swallowed r (r .pending .head)
+  unfolding pendingOf droppedOf refusedOf
+  swallowedEnd e (inl ne) = takes r w p (of-kind w End e) ∙ rw (ne-eqb _ _ ne)
+  swallowedEnd e (inr ne) =
+      let f : closes (r .pending) (highOf w) ≡ false = not-both (sameCode (r .pending) (highOf w)) _ (ne-eqb _ _ ne) in
+      takes r w p (of-kind w End e) ∙ rw f
 
-swallowedEnd : (r : Rig) (w : ℕ) → r .pending .waiting ≡ true → kindOf (highOf w) ≡ End → closing r w ≡ false
-    → takeOf r w ≡ record { rig = dropped r; reply = Swallowed }
-unfolding pendingOf droppedOf
-swallowedEnd r w p e k = takes r w p e ∙ rw (end-closes (r .pending .waiting) (kindOf (highOf w)) (closes (r .pending) (highOf w)) false p e k)
-
-is-end : (k : Kind) → isEnd k ≡ true → k ≡ End
-is-end Single e = cc
-is-end Head e = cc
-is-end Data e = cc
-is-end End e = refl
-
-closed-is : (r : Rig) (w : ℕ) → closing r w ≡ true → takeOf r w ≡ plain (closedOf r (lowOf w))
-unfolding pendingOf
-closed-is r w k =
-    let p = and-left (r .pending .waiting) (isEnd (kindOf (highOf w)) && closes (r .pending) (highOf w)) k in
-    let q = and-right (r .pending .waiting) (isEnd (kindOf (highOf w)) && closes (r .pending) (highOf w)) k in
-    let e = is-end (kindOf (highOf w)) (and-left (isEnd (kindOf (highOf w))) (closes (r .pending) (highOf w)) q) in
-    takes r w p e ∙ rw (and-right (isEnd (kindOf (highOf w))) (closes (r .pending) (highOf w)) q)
+  closed-is : 3 ≤ w / 0x4000 → SameCode r w → r .pending .got ≡ r .pending .n → takeOf r w ≡ plain (closedOf r (lowOf w))
+  unfolding pendingOf
+  closed-is e c h = takes r w p (of-kind w End e) ∙ rw (eq-eqb _ _ c, eq-eqb _ _ h)
 
 closed-here : (c : Core) (p : Pending) (received : ℕ) → PendingWhen c p received (verdictOf (judgeOf (p .check) received) c p)
 unfolding verdictOf blockOf countedOf
@@ -199,17 +195,18 @@ row-laws =
       limit29 = limit29;
       mode2B = mode2B;
       stepping2D = stepping2D;
-      unknown = λ r code low h l i u. judged r code low h l i ∙ ap (λ (v : Verdict). plain (settledOf r code v)) (unlisted (r .core) code low u);
+      unknown = λ r code low h l i u.
+          judged r code low h l i ∙ ap (λ (v : Verdict). plain (settledOf r code v)) (unlisted (r .core) code low u) ∙ settled-is r code (Deny UnknownCode);
       long = long;
       waits = waits;
       strayData = strayData;
       strayEnd = strayEnd;
       kept = kept;
-      closed = λ r w k. record {
+      closed = λ r w p e c h. record {
         one = verdictOf (judgeOf (r .pending .check) (lowOf w)) (r .core) (r .pending);
         is = closed-here (r .core) (r .pending) (lowOf w);
         alone = closed-alone (r .core) (r .pending) (lowOf w);
-        then = closed-is r w k;
+        then = closed-is r w p e c h ∙ settled-is _ (r .pending .head) (verdictOf (judgeOf (r .pending .check) (lowOf w)) (r .core) (r .pending));
       };
       swallowedData = swallowedData;
       swallowedEnd = swallowedEnd;

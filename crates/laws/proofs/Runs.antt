@@ -1,14 +1,14 @@
 -- What every run keeps (specs/Runs): one invariant of the rig and its ledger, kept by each event; a run is an induction over its events.
 -- Assumes nothing.
-use Prim.Native.Nat.{ℕ, zero, suc, _%_, _<_, _≤_}
+use Prim.Native.Nat.{ℕ, zero, suc, _+_, _/_, _%_, _<_, _≤_}
 use mathlib.Core.Path.{_≡_, refl, ap, sym, subst, _∙_}
-use mathlib.Core.Bool.{Bool, true, false, true≢false}
+use mathlib.Core.Bool.{Bool, true, false}
 use mathlib.Core.List.{List, [], _∷_}
 use native.Mathlib.Omega.{arith}
 use native.Mathlib.Nat.{not-suc-le-zero}
 use native.Mathlib.Decide.{ℕ-discrete}
 use lib.Dec.{eqb}
-use Rattle.base.specs.Pick.{pick}
+use lib.ListN.{length}
 use Rattle.supply.proofs.Ramp.{spin-moves}
 use Rattle.supply.proofs.Kept.{stepped-safe, stepped-quiet}
 use Rattle.frame.specs.Items.{heldAt}
@@ -16,19 +16,20 @@ use Rattle.frame.specs.Read.{remOf}
 use Rattle.rig.specs.declared.Panel.{Panel}
 use Rattle.power.specs.declared.PanelSetting.{PanelSetting}
 use Rattle.power.specs.declared.PanelSetting.the-variants.{Bias, Ground, FreeTime, Flaps}
-use Rattle.rig.specs.declared.Pending.{Pending}
 use Rattle.rig.specs.declared.Sending.{Sending}
 use Rattle.rig.specs.declared.Rig.{Rig}
 use Rattle.rig.specs.Words.{highOf, lowOf, takeOf}
+use Rattle.rig.specs.Replies.{refusalsOf}
 use Rattle.rig.specs.Start.{startRig}
 use Rattle.power.specs.Power.{panelOf, setOf}
 use Rattle.sending.specs.Sending.{heldOf, bit, nextLatch}
 use Rattle.laws.specs.Replies.{closing}
-use Rattle.laws.specs.Runs.{FitsPanel, Event, word, spin, set, cut, frame, ours, after, run, Ledger, blank, entered, ledger, reached, given, Bounds, RunLaws}
-use Rattle.laws.proofs.Tests.{by-test, and-left}
+use Rattle.laws.specs.Runs.{FitsPanel, Event, word, spin, set, cut, frame, ours, after, run, heldAs, Ledger, blank, latestError, latestCode, entered, ledger, reached, given, Bounds, RunLaws}
+use Rattle.laws.proofs.Tests.{by-test}
 use Rattle.laws.proofs.Words.{case}
 use Rattle.laws.proofs.Replies.{reply-laws}
-use Rattle.laws.proofs.Bounds.{nothing-fits, Fits, word-fits, Holds, word-holds, Told, told}
+use Rattle.laws.proofs.Bounds.{nothing-fits, Fits, word-fits, Told, told}
+use Rattle.laws.proofs.Begun.{begun-word, closed-by, check-of, named-by}
 
 record PanelFits (p : Panel) : Type 0 where
   bias : p .bias < 0x100
@@ -42,7 +43,7 @@ record SendingFits (s : Sending) : Type 0 where
 record Inv (r : Rig) (l : Ledger) : Type 0 where
   told : Told (r .faults) (l .refusals) (l .error) (l .last)
   counter : r .edbs .0 ≡ l .spins % 0x100000000
-  holds : Holds (r .pending) (l .kept)
+  holds : r .pending ≡ heldAs (l .begun)
   check : r .check ≡ l .check
   byte : r .check < 0x100
   fits : Fits r
@@ -52,9 +53,9 @@ record Inv (r : Rig) (l : Ledger) : Type 0 where
 start-inv : Inv startRig blank
 start-inv =
     record {
-      told = record { count = refl; error = refl; last = refl; small = omega arith; fits = omega arith };
+      told = record { count = refl; error = refl; last = refl; small = omega arith; known = refl; fits = omega arith };
       counter = refl;
-      holds = λ w. absurd (true≢false (sym w));
+      holds = refl;
       check = refl;
       byte = omega arith;
       fits = (
@@ -72,24 +73,21 @@ start-inv =
       sending = record { next = omega arith; latch = omega arith };
     }
 
--- two choices by one test
-by-same : {x y u v : ℕ} (b : Bool) → (b ≡ true → x ≡ y) → u ≡ v → pick b x u ≡ pick b y v
-by-same true f e = f refl
-by-same false f e = e
-
 word-inv : (r : Rig) (l : Ledger) (w : ℕ) (h : w < 0x10000) → Inv r l → Inv (takeOf r w .rig) (entered ours r (word w h) l)
 word-inv r l w h i =
     let high : highOf w < 0x100 = omega arith in
     let low : lowOf w < 0x100 = omega arith in
     let q = takeOf r w .rig in
+    let reply = takeOf r w .reply in
     let p = i .fits .1 in
     let apart = reply-laws .apart r w in
     let check = reply-laws .check r w in
     record {
-      told = told r q w (takeOf r w .reply) (l .refusals) (l .error) (l .last) (reply-laws .moves r w) (p .head) high (i .told);
+      told = subst (λ (b : ℕ). Told (q .faults) (l .refusals + length (refusalsOf reply)) (latestError (l .error) reply) (latestCode (l .last) b (w / 256) reply)) (named-by r (l .begun) w (i .holds))
+          (told r q w reply (l .refusals) (l .error) (l .last) (reply-laws .moves r w) (p .head) high (i .told));
       counter = rw (apart .edbs) (i .counter);
-      holds = word-holds (l .kept) (case r w) (i .holds);
-      check = check ∙ by-same (closing r w) (λ e. ap (λ (p : Pending). p .check) (i .holds (and-left (r .pending .waiting) _ e))) (i .check);
+      holds = begun-word r (l .begun) w (i .holds);
+      check = check ∙ simp (closed-by r (l .begun) w (i .holds), check-of r (l .begun) (i .holds), i .check);
       byte = rw check (by-test (_< 0x100) (closing r w) (λ e. p .check) (λ e. i .byte));
       fits = word-fits (case r w) high low (i .fits);
       panel = rw (apart .panel) (i .panel);
@@ -208,6 +206,7 @@ run-laws =
       counter = λ es. always es .counter;
       error = λ es. always es .told .error;
       last = λ es. always es .told .last;
+      errors = λ es. always es .told .known;
       check = λ es. always es .check;
       holds = λ es. always es .holds;
       bounds = λ es. bounded (always es);

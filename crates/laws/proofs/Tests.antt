@@ -16,3 +16,7 @@ and-left false b e = e
 pub and-right : (a b : Bool) → a && b ≡ true → b ≡ true
 and-right true b e = e
 and-right false b e = cc
+
+pub not-both : (a b : Bool) → b ≡ false → a && b ≡ false
+not-both true b e = e
+not-both false b e = refl

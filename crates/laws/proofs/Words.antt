@@ -19,8 +19,8 @@ use Rattle.rig.specs.declared.Reply.the-variants.{Plain, Swallowed}
 use Rattle.rig.specs.declared.Judgement.{Judgement}
 use Rattle.rig.specs.declared.Taken.{Taken}
 use Rattle.rig.specs.Words.{highOf, lowOf, kindOf, codeOf, withPending, withCheck, nothingPending, newBlock, oneMore, settledOf, headOf, freshOf, sameCode, keeps, closes, verdictOf, closedOf, plain, afterDrop, dropped, droppedOf, pendingOf, takeOf}
-use Rattle.laws.specs.Replies.{isEnd, closing, isData, keeping}
 use Rattle.laws.proofs.Tests.{by-test, and-right}
+use Rattle.laws.proofs.WordKinds.{isEnd, closesIt}
 use Rattle.laws.proofs.Commands.{CoreFits, Keeps, single-keeps, verdict-keeps}
 
 -- the decoder's first choice, for a word of a known kind
@@ -34,15 +34,15 @@ pub data Fresh (r : Rig) (high low : ℕ) : Judgement → Type 0 where
   judged : (v : Verdict) → (CoreFits (r .core) → Keeps v) → Fresh r high low (settledOf r high v)
   begun : low ≤ 79 → Fresh r high low (record { rig = withPending r (newBlock high low); answer = Waiting })
 
--- a word taken; the tests say whether it closes the pending block, and whether it is kept
-pub data Case (r : Rig) (high low : ℕ) : Bool → Bool → Taken → Type 0 where
-  idle : r .pending .waiting ≡ false → (j : Judgement) → Fresh r high low j → Case r high low false false (plain j)
+-- a word taken; the test says whether it closes the pending block
+pub data Case (r : Rig) (high low : ℕ) : Bool → Taken → Type 0 where
+  idle : r .pending .waiting ≡ false → (j : Judgement) → Fresh r high low j → Case r high low false (plain j)
   kept : r .pending .waiting ≡ true → r .pending .got < r .pending .n
-      → Case r high low false true (record { rig = withPending r (oneMore (r .pending) low); reply = Plain Waiting })
+      → Case r high low false (record { rig = withPending r (oneMore (r .pending) low); reply = Plain Waiting })
   closed : r .pending .waiting ≡ true → (v : Verdict) → (CoreFits (r .core) → r .pending .first < 0x100 → Keeps v)
-      → Case r high low true false (plain (settledOf (withCheck (withPending r nothingPending) (r .pending .check)) (r .pending .head) v))
-  swallowed : r .pending .waiting ≡ true → Case r high low false false (record { rig = dropped r; reply = Swallowed })
-  again : r .pending .waiting ≡ true → (j : Judgement) → Fresh (dropped r) high low j → Case r high low false false (afterDrop j)
+      → Case r high low true (plain (settledOf (withCheck (withPending r nothingPending) (r .pending .check)) (r .pending .head) v))
+  swallowed : r .pending .waiting ≡ true → Case r high low false (record { rig = dropped r; reply = Swallowed })
+  again : r .pending .waiting ≡ true → (j : Judgement) → Fresh (dropped r) high low j → Case r high low false (afterDrop j)
 
 fresh-is : (r : Rig) (k : Kind) (high low : ℕ) → Fresh r high low (freshOf r k high low)
 unfolding freshOf headOf
@@ -51,17 +51,17 @@ fresh-is r Head high low = by-test (Fresh r high low) (ltb 79 low) (λ e. judged
 fresh-is r Data high low = judged (Deny StrayWord) (λ h. tt)
 fresh-is r End high low = judged (Deny StrayWord) (λ h. tt)
 
-data-is : (r : Rig) (high low : ℕ) (b : Bool) → r .pending .waiting ≡ true → keeps (r .pending) high ≡ b → Case r high low false b (pendingOf r Data high low)
+data-is : (r : Rig) (high low : ℕ) (b : Bool) → r .pending .waiting ≡ true → keeps (r .pending) high ≡ b → Case r high low false (pendingOf r Data high low)
 unfolding pendingOf droppedOf
 data-is r high low true w e = rw e (kept w (ltb-true _ _ (and-right (sameCode (r .pending) high) _ e)))
 data-is r high low false w e = rw e (swallowed w)
 
-end-is : (r : Rig) (high low : ℕ) (b : Bool) → r .pending .waiting ≡ true → closes (r .pending) high ≡ b → Case r high low b false (pendingOf r End high low)
+end-is : (r : Rig) (high low : ℕ) (b : Bool) → r .pending .waiting ≡ true → closes (r .pending) high ≡ b → Case r high low b (pendingOf r End high low)
 unfolding pendingOf droppedOf closedOf
 end-is r high low true w e = rw e (closed w (verdictOf (judgeOf (r .pending .check) low) (r .core) (r .pending)) (verdict-keeps (judgeOf (r .pending .check) low) (r .core) (r .pending)))
 end-is r high low false w e = rw e (swallowed w)
 
-pending-is : (r : Rig) (k : Kind) (high low : ℕ) → r .pending .waiting ≡ true → Case r high low (isEnd k && closes (r .pending) high) (isData k && keeps (r .pending) high) (pendingOf r k high low)
+pending-is : (r : Rig) (k : Kind) (high low : ℕ) → r .pending .waiting ≡ true → Case r high low (isEnd k && closes (r .pending) high) (pendingOf r k high low)
 unfolding pendingOf droppedOf
 pending-is r Single high low w = again w (freshOf (dropped r) Single high low) (fresh-is (dropped r) Single high low)
 pending-is r Head high low w = again w (freshOf (dropped r) Head high low) (fresh-is (dropped r) Head high low)
@@ -69,10 +69,10 @@ pending-is r Data high low w = data-is r high low (keeps (r .pending) high) w re
 pending-is r End high low w = end-is r high low (closes (r .pending) high) w refl
 
 by-waiting : (r : Rig) (k : Kind) (high low : ℕ) (b : Bool) → r .pending .waiting ≡ b
-    → Case r high low (b && (isEnd k && closes (r .pending) high)) (b && (isData k && keeps (r .pending) high)) (pick b (pendingOf r k high low) (plain (freshOf r k high low)))
+    → Case r high low (b && (isEnd k && closes (r .pending) high)) (pick b (pendingOf r k high low) (plain (freshOf r k high low)))
 by-waiting r k high low true w = pending-is r k high low w
 by-waiting r k high low false w = idle w (freshOf r k high low) (fresh-is r k high low)
 
-pub case : (r : Rig) (w : ℕ) → Case r (highOf w) (lowOf w) (closing r w) (keeping r w) (takeOf r w)
+pub case : (r : Rig) (w : ℕ) → Case r (highOf w) (lowOf w) (closesIt r w) (takeOf r w)
 unfolding takeOf
 case r w = by-waiting r (kindOf (highOf w)) (highOf w) (lowOf w) (r .pending .waiting) refl

@@ -1,9 +1,10 @@
 -- Runs of a rig from the start: any words, spins, settings, power cuts and frames, in any order and number; and what every run keeps.
 -- Keeps 01 "Command words" (the counts and codes), "Spins and power", and the widths of "The 40-byte frame". Assumes nothing.
 use mathlib.Core.Path.{_≡_}
-use mathlib.Core.Bool.{true, false}
+use mathlib.Core.Bool.{Bool, true, false, _&&_, _||_}
 use mathlib.Core.List.{List, [], _∷_, _++_}
-use Prim.Native.Nat.{ℕ, _+_, _%_, _<_, _≤_}
+use Prim.Native.Nat.{ℕ, _+_, _/_, _%_, _<_, _≤_}
+use lib.Dec.{eqb, leb, ltb}
 use lib.ListN.{length}
 use Rattle.base.specs.Pick.{pick}
 use Rattle.base.specs.Counts.{spinMore}
@@ -11,7 +12,7 @@ use Rattle.crc.specs.Crc.{crcOf}
 use Rattle.frame.specs.Items.{heldAt}
 use Rattle.frame.specs.Read.{remOf}
 use Rattle.judge.specs.Refusals.{numberOf}
-use Rattle.supply.specs.Laws.{SpinMoves}
+use Rattle.supply.specs.Laws.{Quiet, SpinMoves}
 use Rattle.power.specs.declared.PanelSetting.{PanelSetting}
 use Rattle.power.specs.declared.PanelSetting.the-variants.{Bias, Ground, FreeTime, Flaps}
 use Rattle.rig.specs.declared.Rig.{Rig}
@@ -19,12 +20,13 @@ use Rattle.rig.specs.declared.Answer.the-variants.{Accepted, Waiting, Refused}
 use Rattle.rig.specs.declared.Reply.{Reply}
 use Rattle.rig.specs.declared.Reply.the-variants.{Plain, Swallowed, Dropped}
 use Rattle.rig.specs.declared.Taken.{Taken}
-use Rattle.rig.specs.Words.{dropNumber, highOf, lowOf, nothingPending, takeOf}
+use Rattle.rig.specs.declared.Pending.{Pending}
+use Rattle.rig.specs.Words.{takeOf}
 use Rattle.rig.specs.Replies.{refusalsOf}
 use Rattle.rig.specs.Start.{startRig}
 use Rattle.power.specs.Power.{spunOf, cutOf, setOf}
 use Rattle.sending.specs.Sending.{heldOf, sent}
-use Rattle.laws.specs.Replies.{closing, keeping}
+use Rattle.laws.specs.Results.{none}
 use Rattle.laws.specs.Blocks.{holding}
 
 -- a setting is a byte, a 16-bit number or three switches
@@ -68,43 +70,74 @@ unfoldable pub run : Machine → Rig → List Event → Rig
 run m r [] = r
 run m r (e ∷ es) = run m (after m r e) es
 
+-- What the words sent have begun, told by the words alone: nothing, or a block with its head's byte, its n, and the low bytes of its data words in order.
+pub data Begun : Type 0 where
+  nothing : Begun
+  block : ℕ → ℕ → List ℕ → Begun
+
+-- a head with n up to 79 begins a block; no other word does
+abbrev pub begunBy : ℕ → Begun
+begunBy w = pick (eqb (w / 0x4000) 1 && leb (w % 256) 79) (block (w / 256) (w % 256) []) nothing
+
+-- a data word of the block's code, with room left, is one more byte of it; any other word ends it, and may begin another
+abbrev pub begunAfter : Begun → ℕ → Begun
+begunAfter nothing w = begunBy w
+begunAfter (block h n s) w =
+    pick (eqb (w / 0x4000) 2 && (eqb (w / 256 % 64) (h % 64) && ltb (length s) n)) (block h n (s ++ (w % 256 ∷ []))) (begunBy w)
+
+-- an end word of the block's code after exactly n data words closes it
+abbrev pub closedBy : Begun → ℕ → Bool
+closedBy nothing w = false
+closedBy (block h n s) w = leb 3 (w / 0x4000) && (eqb (w / 256 % 64) (h % 64) && eqb (length s) n)
+
+-- the check of its bytes
+abbrev pub checkOf : Begun → ℕ
+checkOf nothing = 0x00
+checkOf (block h n s) = crcOf s
+
+-- the byte that a refusal names: the head's for a pending or closed block, else the word's own
+abbrev pub namedBy : Begun → ℕ → ℕ
+namedBy nothing w = w / 256
+namedBy (block h n s) w = h
+
+-- what the rig holds of it
+abbrev pub heldAs : Begun → Pending
+heldAs nothing = none
+heldAs (block h n s) = holding h n s
+
 -- What a run has given since the last power cut: how many refusals and how many spins; the number and the named high byte of the latest refusal;
--- the check of the latest closing; and of the block that waits, the low bytes of the data words that were kept, in order.
+-- the check of the latest block that was closed; and what the words have begun.
 pub record Ledger : Type 0 where
   pub refusals : ℕ
   pub spins : ℕ
   pub error : ℕ
   pub last : ℕ
   pub check : ℕ
-  pub kept : List ℕ
+  pub begun : Begun
 
 -- nothing given: 0, and FFh for the code
 abbrev pub blank : Ledger
-blank = record { refusals = 0; spins = 0; error = 0x00; last = 0xFF; check = 0x00; kept = [] }
+blank = record { refusals = 0; spins = 0; error = 0x00; last = 0xFF; check = 0x00; begun = nothing }
 
--- the byte that a refusal names: the head's for a pending or closed block, else the word's own
-abbrev pub named : Rig → ℕ → ℕ
-named r w = pick (r .pending .waiting) (r .pending .head) (highOf w)
-
--- the number of the latest refusal, after this reply
+-- the number of the latest refusal, after this reply; a dropped block is 03h
 abbrev pub latestError : ℕ → Reply → ℕ
 latestError old (Plain Accepted) = old
 latestError old (Plain Waiting) = old
 latestError old (Plain (Refused why)) = numberOf why
-latestError old Swallowed = dropNumber
-latestError old (Dropped Accepted) = dropNumber
-latestError old (Dropped Waiting) = dropNumber
+latestError old Swallowed = 0x03
+latestError old (Dropped Accepted) = 0x03
+latestError old (Dropped Waiting) = 0x03
 latestError old (Dropped (Refused why)) = numberOf why
 
--- the byte that the latest refusal names, after this reply
-abbrev pub latestCode : ℕ → Rig → ℕ → Reply → ℕ
-latestCode old r w (Plain Accepted) = old
-latestCode old r w (Plain Waiting) = old
-latestCode old r w (Plain (Refused why)) = named r w
-latestCode old r w Swallowed = named r w
-latestCode old r w (Dropped Accepted) = named r w
-latestCode old r w (Dropped Waiting) = named r w
-latestCode old r w (Dropped (Refused why)) = highOf w
+-- the byte that the latest refusal names, after this reply: `named`, or where the word was refused after it dropped a block, its own
+abbrev pub latestCode : ℕ → ℕ → ℕ → Reply → ℕ
+latestCode old named own (Plain Accepted) = old
+latestCode old named own (Plain Waiting) = old
+latestCode old named own (Plain (Refused why)) = named
+latestCode old named own Swallowed = named
+latestCode old named own (Dropped Accepted) = named
+latestCode old named own (Dropped Waiting) = named
+latestCode old named own (Dropped (Refused why)) = own
 
 -- what an event adds: each refusal a word gets is counted, each spin; a power cut begins anew
 abbrev pub entered : Machine → Rig → Event → Ledger → Ledger
@@ -114,11 +147,11 @@ entered m r (word w h) l =
       refusals = l .refusals + length (refusalsOf reply);
       spins = l .spins;
       error = latestError (l .error) reply;
-      last = latestCode (l .last) r w reply;
-      check = pick (closing r w) (crcOf (l .kept)) (l .check);
-      kept = pick (keeping r w) (l .kept ++ (lowOf w ∷ [])) [];
+      last = latestCode (l .last) (namedBy (l .begun) w) (w / 256) reply;
+      check = pick (closedBy (l .begun) w) (checkOf (l .begun)) (l .check);
+      begun = begunAfter (l .begun) w;
     }
-entered m r spin l = record { refusals = l .refusals; spins = l .spins + 1; error = l .error; last = l .last; check = l .check; kept = l .kept }
+entered m r spin l = record { refusals = l .refusals; spins = l .spins + 1; error = l .error; last = l .last; check = l .check; begun = l .begun }
 entered m r (set s h) l = l
 entered m r cut l = blank
 entered m r frame l = l
@@ -136,13 +169,22 @@ reached m es = run m (m .start) es
 abbrev pub given : Machine → List Event → Ledger
 given m es = ledger m (m .start) blank es
 
+-- the error codes that there are: none yet, 03h to 06h, 0Bh to 0Fh
+abbrev pub codes : List ℕ
+codes = 0x00 ∷ 0x03 ∷ 0x04 ∷ 0x05 ∷ 0x06 ∷ 0x0B ∷ 0x0C ∷ 0x0D ∷ 0x0E ∷ 0x0F ∷ []
+
+-- a number is one of those listed
+abbrev pub oneOf : List ℕ → ℕ → Bool
+oneOf [] n = false
+oneOf (x ∷ xs) n = eqb n x || oneOf xs n
+
 -- the bounds of every field
 pub record Bounds (r : Rig) : Type 0 where
   -- the supply: target ≤ limit ≤ 15, level ≤ 15; nothing stands while the relay is off
   pub target : r .core .supply .target ≤ r .core .supply .limit
   pub limit : r .core .supply .limit ≤ 15
   pub level : r .core .supply .level ≤ 15
-  pub off : r .core .supply .relay ≡ false → (r .core .supply .level ≡ 0) × (r .core .supply .target ≡ 0)
+  pub off : Quiet (r .core .supply)
   -- the settings
   pub mask : r .core .settings .mask ≤ 7
   pub mux : r .core .settings .sensor .mux .byte < 0x100
@@ -163,7 +205,7 @@ pub record Bounds (r : Rig) : Type 0 where
   pub second : r .pending .second < 0x100
   pub soFar : r .pending .check < 0x100
   -- nothing pending is one value
-  pub idle : r .pending .waiting ≡ false → r .pending ≡ nothingPending
+  pub idle : r .pending .waiting ≡ false → r .pending ≡ none
   -- the panel, the next frame, the counter
   pub bias : r .panel .bias < 0x100
   pub ground : r .panel .ground < 0x100
@@ -193,11 +235,12 @@ pub record RunLaws (m : Machine) : Type 0 where
   -- the error code and the last invalid code are those of the latest refusal since the last power cut; 0 and FFh if there was none
   pub error : (es : List Event) → reached m es .faults .error ≡ given m es .error
   pub last : (es : List Event) → reached m es .faults .last ≡ given m es .last
-  -- the last check is that of the bytes of the latest block that closed since the last power cut; 0 if there was none
+  -- the error code is one of those that there are
+  pub errors : (es : List Event) → oneOf codes (reached m es .faults .error) ≡ true
+  -- the last check is that of the data words sent in the latest block that was closed since the last power cut; 0 if there was none
   pub check : (es : List Event) → reached m es .check ≡ given m es .check
-  -- a block that waits is its head, and the bytes of the data words that were kept since
-  pub holds : (es : List Event) → reached m es .pending .waiting ≡ true
-      → reached m es .pending ≡ holding (reached m es .pending .head) (reached m es .pending .n) (given m es .kept)
+  -- the pending block is what the words sent have begun: its head, its n, and the bytes of its data words; or none
+  pub holds : (es : List Event) → reached m es .pending ≡ heldAs (given m es .begun)
   -- every field keeps its bounds
   pub bounds : (es : List Event) → Bounds (reached m es)
   -- what a frame shows of each plain item fits the item's width, so that nothing is cut off

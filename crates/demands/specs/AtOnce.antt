@@ -1,61 +1,26 @@
--- A rig, a desk and the history of slots between them; everything that can happen; and runs from the start.
--- Keeps 01 whole. Every frame that is built is one slot, whole or missed. Assumes nothing.
+-- Runs in which every frame becomes a slot as it is built, and demand 3 over these. The demand itself is over all runs (specs/Queue, specs/Demand3), and
+-- follows from this, and gives this (proofs/Queue): the proofs begin here. Assumes nothing.
 use mathlib.Core.Path.{_≡_}
 use mathlib.Core.List.{List, [], _∷_}
 use Prim.Native.Nat.{ℕ, _+_, _<_}
 use lib.ListN.{length, replicate}
+use Rattle.base.specs.declared.Frames.{Frames}
+use Rattle.base.specs.Counts.{frames}
 use Rattle.frame.specs.declared.Item.{Item}
 use Rattle.frame.specs.Items.{rowOf}
 use Rattle.desk.specs.declared.Desk.{Desk}
-use Rattle.desk.specs.declared.Shown.{Shown}
-use Rattle.desk.specs.declared.Received.{Received}
-use Rattle.desk.specs.Desk.{freshDesk, slotOf, missedOf, shows}
+use Rattle.desk.specs.declared.Shown.the-variants.{Known}
 use Rattle.power.specs.declared.PanelSetting.{PanelSetting}
 use Rattle.rig.specs.declared.Rig.{Rig}
-use Rattle.sending.specs.declared.Built.{Built}
-use Rattle.sending.specs.Sending.{builtOf, filledOf, nextFrame}
-use Rattle.laws.specs.Runs.{FitsPanel, Machine, ours}
-use Rattle.demands.specs.History.{Slot, missed, whole}
-
--- The functions of a rig and a desk. The demands are said of any such.
-pub record Outfit : Type 0 where
-  pub rig : Machine
-  -- the next frame; what building it at a place of a buffer answers, and what the buffer then holds
-  pub frame : Rig → List ℕ
-  pub build : Rig → List ℕ → ℕ → Built
-  pub filled : Rig → List ℕ → ℕ → List ℕ
-  pub fresh : Desk
-  pub slot : Desk → List ℕ → Received
-  pub missed : Desk → Desk
-  pub look : Desk → Item → Shown
-
--- Ours: the definitions that our functions are proved to meet.
-abbrev pub proved : Outfit
-proved =
-    record {
-      rig = ours;
-      frame = nextFrame;
-      build = builtOf;
-      filled = filledOf;
-      fresh = freshDesk;
-      slot = slotOf;
-      missed = missedOf;
-      look = λ d item. shows d (rowOf item);
-    }
+use Rattle.laws.specs.Runs.{FitsPanel}
+use Rattle.demands.specs.History.{Slot, missed, whole, held, Told}
+use Rattle.demands.specs.Outfit.{Outfit, fillC0, fillFF}
 
 -- rig, desk, and every slot so far, the newest first
 pub record World : Type 0 where
   pub rig : Rig
   pub desk : Desk
   pub past : List Slot
-
--- fill: 40 equal bytes C0h or FFh, which is a missed slot
-abbrev pub fillC0 : List ℕ
-fillC0 = replicate 40 0xC0
-
--- the other fill
-abbrev pub fillFF : List ℕ
-fillFF = replicate 40 0xFF
 
 -- everything that can happen
 pub data Event : Type 0 where
@@ -120,3 +85,17 @@ module _ (o : Outfit) where
   -- the world after any events
   abbrev pub after : List Event → World
   after es = run start es
+
+-- as many slots as make every item known: 35
+abbrev pub enough : Frames
+enough = frames 35
+
+-- the world after any events, and after so many whole slots more with nothing else happening
+abbrev pub thenWhole : Outfit → List Event → Frames → World
+thenWhole o es n = run o (after o es) (replicate (n .0) arrives)
+
+-- demand 3 over these runs, of any rig and desk
+pub record AtOnceFor (o : Outfit) : Type 0 where
+  pub shown : (es : List Event) (item : Item) → Told (rowOf item) (after o es .past) (o .look (after o es .desk) item)
+  pub round : (es : List Event) (item : Item)
+      → (age : Frames) × (o .look (thenWhole o es enough .desk) item ≡ Known (held (thenWhole o es enough .rig) (rowOf item)) age)

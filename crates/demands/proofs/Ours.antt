@@ -1,0 +1,51 @@
+-- What we call ours is what our functions do: each contract says so.
+-- Assumes nothing.
+use Rattle.demands.specs.Ours.{OurOutfit, OurBlocks}
+
+pub our-outfit : OurOutfit
+our-outfit =
+    record {
+      start = λ r m. m;
+      take = λ r w t m. m;
+      spin = λ r q m. m;
+      set = λ r s q m. m;
+      cut = λ r q m. m;
+      build = λ κs a e b m. m;
+      fresh = λ d m. m;
+      slot = λ κs a e x m. m;
+      missed = λ d q m. m;
+      look = λ d item x m. m;
+      asks-start = tt;
+      asks-take = λ r w. tt;
+      asks-spin = λ r. tt;
+      asks-set = λ r s. tt;
+      asks-cut = λ r. tt;
+      asks-build = λ κs a. tt;
+      asks-fresh = tt;
+      asks-slot = λ κs a. tt;
+      asks-missed = λ d. tt;
+      asks-look = λ d item. tt;
+    }
+
+pub our-blocks : OurBlocks
+our-blocks =
+    record {
+      locate = λ κs b p x m. m;
+      part = λ κs b p x m. m;
+      event = λ κs b n x m. m;
+      ifftEvent = λ κs b n x m. m;
+      ifftItem = λ κs b n x m. m;
+      sheet = λ x y s m. m;
+      wordNumber = λ r n m. m;
+      frameNumber = λ r n m. m;
+      blockNumber = λ r n m. m;
+      asks-locate = λ κs b p. tt;
+      asks-part = λ κs b p. tt;
+      asks-event = λ κs b n. tt;
+      asks-ifftEvent = λ κs b n. tt;
+      asks-ifftItem = λ κs b n. tt;
+      asks-sheet = λ x y. tt;
+      asks-wordNumber = λ r. tt;
+      asks-frameNumber = λ r. tt;
+      asks-blockNumber = λ r. tt;
+    }

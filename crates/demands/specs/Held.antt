@@ -1,0 +1,134 @@
+-- What the rig holds of each item and where a frame has it, as a table: from the start, these steps give these items these values, every item not named
+-- is as at the start, and the frames built then have these bytes.
+-- Keeps 01 "Command words", "Spins and power" and the items of "The 40-byte frame". Assumes nothing.
+use mathlib.Core.Path.{_≡_}
+use mathlib.Core.Bool.{Bool, true, false, not, _&&_, _||_}
+use mathlib.Core.List.{List, [], _∷_}
+use Prim.Native.Nat.{ℕ, zero, suc}
+use lib.Dec.{eqb}
+use lib.ListN.{getD}
+use Rattle.base.specs.Pick.{pick}
+use Rattle.frame.specs.declared.Item.{Item}
+use Rattle.frame.specs.declared.Item.the-variants.{Parallel, Multiplexer1, Multiplexer2, Multiplexer3, ErrorCode, DirectionStop, DirectionStart, EnergyStop, EnergyStart, LastInvalidCode, IelEnable, ReducedCounter, Bias, Relay, Ground, Stepping, Limit, Level, Flap1, Flap2, Flap3, IelClock, LastCheck, InvalidCount, HeadMask, LongCounter, FreeTime}
+use Rattle.frame.specs.Items.{rowOf}
+use Rattle.power.specs.declared.PanelSetting.{PanelSetting}
+use Rattle.power.specs.declared.PanelSetting.the-variants as panel
+use Rattle.rig.specs.declared.Rig.{Rig}
+use Rattle.laws.specs.Runs.{Machine}
+use Rattle.demands.specs.Outfit.{Outfit}
+
+-- a step: a word sent, a spin, a setting by the instructor
+pub data Do : Type 0 where
+  send : ℕ → Do
+  spin : Do
+  set : PanelSetting → Do
+
+unfoldable pub doing : Machine → Rig → List Do → Rig
+doing m r [] = r
+doing m r (send w ∷ ds) = doing m (m .take r w .rig) ds
+doing m r (spin ∷ ds) = doing m (m .spin r) ds
+doing m r (set s ∷ ds) = doing m (m .set r s) ds
+
+-- a row: steps from the start; the items that they move, each with its value; and of the frames then built, by index and byte, what stands there
+pub record Row : Type 0 where
+  pub steps : List Do
+  pub moved : List (Item × ℕ)
+  pub bytes : List (ℕ × (ℕ × ℕ))
+
+abbrev pub row : List Do → List (Item × ℕ) → List (ℕ × (ℕ × ℕ)) → Row
+row ds ms bs = record { steps = ds; moved = ms; bytes = bs }
+
+abbrev pub table : List Row
+table =
+    -- singles: serial/parallel, relay, stepping, limit, IEL clock, IEL enable, head mask
+    row (send 0x2B01 ∷ []) ((Parallel, 1) ∷ []) ((0, (1, 0x40)) ∷ [])
+    ∷ row (send 0x0802 ∷ []) ((Relay, 1) ∷ []) ((0, (2, 0x40)) ∷ [])
+    ∷ row (send 0x2D01 ∷ []) ((Stepping, 1) ∷ []) ((0, (37, 0x10)) ∷ [])
+    ∷ row (send 0x290A ∷ []) ((Limit, 10) ∷ []) ((2, (37, 0xA0)) ∷ [])
+    ∷ row (send 0x0C01 ∷ []) ((IelClock, 1) ∷ []) ((12, (39, 0x80)) ∷ [])
+    ∷ row (send 0x0C02 ∷ []) ((IelEnable, 1) ∷ []) ((0, (19, 0x80)) ∷ [])
+    ∷ row (send 0x2605 ∷ []) ((HeadMask, 5) ∷ []) ((31, (39, 0x50)) ∷ [])
+    -- blocks: each multiplexer alone, the direction and the energy window; the last check moves as well
+    ∷ row (send 0x6002 ∷ send 0xA001 ∷ send 0xA000 ∷ send 0xE015 ∷ []) ((Multiplexer1, 1) ∷ (LastCheck, 0x15) ∷ []) ((0, (6, 0x01)) ∷ (21, (39, 0x15)) ∷ [])
+    ∷ row (send 0x6002 ∷ send 0xA008 ∷ send 0xA000 ∷ send 0xE0A8 ∷ []) ((Multiplexer2, 1) ∷ (LastCheck, 0xA8) ∷ []) ((0, (6, 0x08)) ∷ (21, (39, 0xA8)) ∷ [])
+    ∷ row (send 0x6002 ∷ send 0xA040 ∷ send 0xA000 ∷ send 0xE05B ∷ []) ((Multiplexer3, 1) ∷ (LastCheck, 0x5B) ∷ []) ((0, (6, 0x40)) ∷ (21, (39, 0x5B)) ∷ [])
+    ∷ row (send 0x6302 ∷ send 0xA303 ∷ send 0xA313 ∷ send 0xE346 ∷ []) ((DirectionStart, 3) ∷ (DirectionStop, 0x13) ∷ (LastCheck, 0x46) ∷ []) ((0, (8, 0x09)) ∷ (0, (9, 0x8C)) ∷ [])
+    ∷ row (send 0x6402 ∷ send 0xA405 ∷ send 0xA409 ∷ send 0xE47E ∷ []) ((EnergyStart, 5) ∷ (EnergyStop, 9) ∷ (LastCheck, 0x7E) ∷ []) ((0, (9, 0x01)) ∷ (0, (10, 0x25)) ∷ [])
+    -- two refusals: 04h, then 0Bh
+    ∷ row (send 0x2805 ∷ send 0x0822 ∷ []) ((ErrorCode, 0x0B) ∷ (LastInvalidCode, 0x08) ∷ (InvalidCount, 2) ∷ []) ((0, (7, 0xB0)) ∷ (0, (16, 0x08)) ∷ (22, (39, 2)) ∷ [])
+    -- the instructor's settings
+    ∷ row (set (panel.Bias 0x9A) ∷ []) ((Bias, 0x9A) ∷ []) ((0, (36, 0x9A)) ∷ [])
+    ∷ row (set (panel.Ground 0x70) ∷ []) ((Ground, 0x70) ∷ []) ((0, (38, 0x70)) ∷ [])
+    ∷ row (set (panel.FreeTime 0x1234) ∷ []) ((FreeTime, 0x1234) ∷ []) ((27, (39, 0x12)) ∷ (28, (39, 0x34)) ∷ [])
+    ∷ row (set (panel.Flaps true false false) ∷ []) ((Flap1, 1) ∷ []) ((12, (39, 0x10)) ∷ [])
+    ∷ row (set (panel.Flaps false true false) ∷ []) ((Flap2, 1) ∷ []) ((12, (39, 0x20)) ∷ [])
+    ∷ row (set (panel.Flaps false false true) ∷ []) ((Flap3, 1) ∷ []) ((12, (39, 0x40)) ∷ [])
+    -- spins; and two towards the target 3
+    ∷ row (spin ∷ spin ∷ spin ∷ []) ((LongCounter, 3) ∷ (ReducedCounter, 2) ∷ []) ((0, (20, 2)) ∷ (2, (39, 0)) ∷ (3, (39, 3)) ∷ [])
+    ∷ row (send 0x0802 ∷ send 0x2D01 ∷ send 0x290A ∷ send 0x2803 ∷ spin ∷ spin ∷ []) ((Relay, 1) ∷ (Stepping, 1) ∷ (Limit, 10) ∷ (Level, 2) ∷ (LongCounter, 2) ∷ (ReducedCounter, 1) ∷ []) ((3, (37, 0x20)) ∷ [])
+    ∷ []
+
+-- at the start: all 0, but these three
+abbrev pub atStart : List (Item × ℕ)
+atStart = (LastInvalidCode, 0xFF) ∷ (HeadMask, 7) ∷ (ReducedCounter, 63) ∷ []
+
+-- the value listed for an item, or else v; items are told by their place in the list of items
+abbrev pub listed : List (Item × ℕ) → ℕ → ℕ → ℕ
+listed [] v k = v
+listed (x ∷ xs) v k = pick (eqb (rowOf (x .0)) k) (x .1) (listed xs v k)
+
+abbrev pub starts : ℕ → ℕ
+starts k = listed atStart 0 k
+
+-- what a row says of an item
+abbrev pub says : Row → ℕ → ℕ
+says r k = listed (r .moved) (starts k) k
+
+-- the rig after so many frames more are built
+unfoldable pub builds : Machine → ℕ → Rig → Rig
+builds m zero r = r
+builds m (suc n) r = builds m n (m .sent r)
+
+abbrev pub Bytes : Outfit → Rig → List (ℕ × (ℕ × ℕ)) → Type 0
+Bytes o r [] = Unit {0}
+Bytes o r (x ∷ xs) = (getD (o .frame (builds (o .rig) (x .0) r)) (x .1 .0) 0 ≡ x .1 .1) × Bytes o r xs
+
+-- a row is true of a rig's functions, and of what is held of each item
+pub record True (o : Outfit) (held : Rig → ℕ → ℕ) (r : Row) : Type 0 where
+  pub items : (item : Item) → held (doing (o .rig) (o .rig .start) (r .steps)) (rowOf item) ≡ says r (rowOf item)
+  pub frames : Bytes o (doing (o .rig) (o .rig .start) (r .steps)) (r .bytes)
+
+abbrev pub Every : Outfit → (Rig → ℕ → ℕ) → List Row → Type 0
+Every o held [] = Unit {0}
+Every o held (r ∷ rs) = True o held r × Every o held rs
+
+-- every row of the table is true
+abbrev pub HeldTable : Outfit → (Rig → ℕ → ℕ) → Type 0
+HeldTable o held = Every o held table
+
+-- some row names the item; some row gives two items different values, of which one at least has moved
+abbrev pub names : List (Item × ℕ) → ℕ → Bool
+names [] k = false
+names (x ∷ xs) k = eqb (rowOf (x .0)) k || names xs k
+
+abbrev pub stands : List Row → ℕ → Bool
+stands [] k = false
+stands (r ∷ rs) k = names (r .moved) k || stands rs k
+
+abbrev pub parts : Row → ℕ → ℕ → Bool
+parts r j k = not (eqb (says r j) (says r k)) && (not (eqb (says r j) (starts j)) || not (eqb (says r k) (starts k)))
+
+abbrev pub apart : List Row → ℕ → ℕ → Bool
+apart [] j k = false
+apart (r ∷ rs) j k = parts r j k || apart rs j k
+
+-- two items swapped, wherever they are held
+abbrev pub swapped : ℕ → ℕ → ℕ → ℕ
+swapped i j k = pick (eqb k i) j (pick (eqb k j) i k)
+
+-- what the table leaves: every item stands in a row, any two are told apart, and no two can be swapped
+pub record Settles : Type 0 where
+  pub all : (item : Item) → stands table (rowOf item) ≡ true
+  pub any : (i j : Item) → (rowOf i ≡ rowOf j → ⊥) → apart table (rowOf i) (rowOf j) ≡ true
+  pub no-swap : (o : Outfit) (held : Rig → ℕ → ℕ) (i j : Item) → (rowOf i ≡ rowOf j → ⊥)
+      → HeldTable o held → HeldTable o (λ r k. held r (swapped (rowOf i) (rowOf j) k)) → ⊥
