@@ -7,6 +7,7 @@ mod checks; // checks.rt: the check
 mod cases; // cases.rt: 01's cases a to l
 mod places; // places.rt: frames at a place of a buffer, and lengths that the desk refuses
 mod round; // round.rt: a round of frames, and all items read back
+mod switches; // switches.rt: each setting by itself
 mod mistakes; // mistakes.rt: three of the class's mistakes, slot by slot
 
 fn main() {
@@ -14,5 +15,6 @@ fn main() {
     cases::run();
     places::run();
     round::run();
+    switches::run();
     mistakes::run();
 }

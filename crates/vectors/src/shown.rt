@@ -1,4 +1,4 @@
-// What the desk shows of an item, as text: unknown, or a value with its age; and the items' names.
+// What the desk shows of an item, as text: unknown, or a value with its age; the items' names; and which items moved.
 // Keeps 01 "The 40-byte frame": the items, in the order of their rows.
 use super::print;
 use base::Frames;
@@ -102,6 +102,39 @@ pub(crate) fn all(desk: Desk) {
     while row < 27 {
         say(desk, row);
         print::text(b"\n");
+        row += 1;
+    }
+}
+
+fn is_at(shown: Shown, value: u32) -> bool {
+    match shown {
+        Shown::Unknown => false,
+        Shown::Known(v, _) => v == value,
+    }
+}
+
+// Whether both show one value, at whatever age.
+fn is_same(a: Shown, b: Shown) -> bool {
+    match a {
+        Shown::Unknown => false,
+        Shown::Known(v, _) => is_at(b, v),
+    }
+}
+
+fn say_moved(before: Desk, after: Desk, row: u32) {
+    let item = item_of(row);
+    if is_same(desk::look(before, item), desk::look(after, item)) {
+        return;
+    }
+    print::text(b" ");
+    say(after, row);
+}
+
+// The items that one desk shows at another value than the other, or not at all, each with a blank before it.
+pub(crate) fn moved(before: Desk, after: Desk) {
+    let mut row: u32 = 0;
+    while row < 27 {
+        say_moved(before, after, row);
         row += 1;
     }
 }

@@ -1,12 +1,12 @@
--- `parts::fill` is safe and ends. The loop's invariant: the index is at most the length, which no store changes.
+-- `parts::blocks::fill` is safe and ends. The loop's invariant: the index is at most the length, which no store changes.
 -- The measure is what is left of the length. Assumes nothing.
 use mathlib.Core.Path.{_≡_}
 use Prim.Native.Nat.{_≤_, _-_}
 use native.Mathlib.Omega.{arith}
 use lib.ListN.{length, length-set}
 use borrow.Author.Needs.{needs}
-use Rattle.parts.proofs.fill.Statement.{statement}
-use Rattle.parts.proofs.fill.Tie as tie
+use Rattle.parts.proofs.blocks.fill.Statement.{statement}
+use Rattle.parts.proofs.blocks.fill.Tie as tie
 
 abbrev Inv-loop : tie.InvT-loop
 Inv-loop b₀ i₀ b i = (length b ≡ length b₀) × (i ≤ length b)
