@@ -120,26 +120,37 @@ fn say_line(bench: Bench, kind: u32, slot: u32, f: &[u8; 40], shows: Shows) {
     say_items(desk, shows);
 }
 
-fn arrive(built: Bench, kind: u32, f: &[u8; 40]) -> Bench {
-    if kind == MISSED {
-        return slots::miss(built);
-    }
-    if kind == LOSE {
-        return slots::miss(built);
-    }
+// A slot whose frame is lost.
+fn lose(bench: Bench, kind: u32, slot: u32, shows: Shows) -> Bench {
+    let mut f = [0u8; 40];
+    let next = slots::lost(bench, &mut f, 0).bench;
+    say_line(next, kind, slot, &f, shows);
+    next
+}
+
+fn hear(built: Bench, f: &[u8; 40]) -> Bench {
     slots::hand(built, f).bench
 }
 
-// One slot.
-fn pass(bench: Bench, kind: u32, slot: u32, shows: Shows) -> Bench {
+// A slot that brings bytes: the frame, or fill in its place.
+fn bring(bench: Bench, kind: u32, slot: u32, shows: Shows) -> Bench {
     let mut f = [0u8; 40];
     let built = slots::build(bench, &mut f, 0).bench;
     if kind == FILL {
         f = [0xC0u8; 40];
     }
-    let next = arrive(built, kind, &f);
+    let next = hear(built, &f);
     say_line(next, kind, slot, &f, shows);
     next
+}
+
+// One slot.
+fn pass(bench: Bench, kind: u32, slot: u32, shows: Shows) -> Bench {
+    match kind {
+        MISSED => lose(bench, kind, slot, shows),
+        LOSE => lose(bench, kind, slot, shows),
+        _ => bring(bench, kind, slot, shows),
+    }
 }
 
 fn pass_all(bench: Bench, kind: u32, first: u32, times: u32, shows: Shows) -> Bench {
