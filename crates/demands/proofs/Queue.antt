@@ -1,5 +1,6 @@
--- Demand 3 follows from demand 3 over runs in which every frame becomes a slot as it is built, and gives it back, of any rig and desk: what happens to the rig and what becomes a slot do not meet, so that
--- a line stands where a world stands at which each frame arrived as it was built, less what has happened to the rig since. Assumes nothing.
+-- Demand 3 follows from demand 3 over runs in which every frame becomes a slot as it is built (specs/AtOnce), and gives it back, of any rig and desk: what
+-- happens to the rig and what becomes a slot do not meet, so that a line stands where a world stands at which each frame arrived as it was built, less what
+-- has happened to the rig since. Assumes nothing.
 use mathlib.Core.Path.{_≡_, refl, _∙_, sym, ap, subst}
 use mathlib.Core.List.{List, [], _∷_, _++_}
 use Prim.Native.Nat.{ℕ, zero, suc, _+_}

@@ -1,5 +1,5 @@
--- The demands leave one rig and one desk (01, "How tight each promise is"): whatever meets them answers every word, and shows every item, as ours does. This is how they catch a fraud: one
--- word, or one slot, at which the fraud differs from ours is enough. Assumes nothing.
+-- The demands leave one rig and one desk (01, "How tight each promise is"): whatever meets them takes every word, hears all bytes and shows every item as ours
+-- does. This is how they catch a fraud: one word, or one slot, at which the fraud differs from ours is enough. Assumes nothing.
 use mathlib.Core.Path.{_≡_}
 use mathlib.Core.List.{List, [], _∷_}
 use Prim.Native.Nat.{ℕ}

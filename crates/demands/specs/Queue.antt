@@ -1,5 +1,6 @@
 -- Runs of a rig and a desk with frames on their way: any number may be built before the oldest becomes a slot.
--- Keeps 01's third demand: everything that can happen, step by step. A frame becomes a slot in the order in which it was built: whole, marked missed, or as fill. Assumes nothing.
+-- Keeps 01's third demand: everything that can happen, step by step. Frames become slots in the order in which they were built: whole, marked missed, or
+-- as fill. Assumes nothing.
 use mathlib.Core.Path.{_≡_}
 use mathlib.Core.List.{List, [], _∷_, _++_}
 use Prim.Native.Nat.{ℕ, suc, _+_, _<_}
