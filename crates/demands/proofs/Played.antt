@@ -24,7 +24,7 @@ use Rattle.slots.specs.Slots.{builtBench, handedOf, arrivedBench, lostBench}
 use Rattle.slots.proofs.Place.{stands}
 use Rattle.demands.specs.Outfit.{proved}
 use Rattle.demands.specs.Queue.{Line, marked, C0, FF, built, came, gone, arrive, lose}
-use Rattle.demands.specs.Played.{benchAt, then, Oldest, PlayedAlone, PlayedSlots}
+use Rattle.demands.specs.Played.{benchAt, then, Written, NoRoom, PlayedAlone, PlayedSlots}
 
 -- a buffer with room is written; one without is refused
 writes : (r : Rig) (s : List ℕ) (at : ℕ) → at + 40 ≤ length s → wroteOf at s ≡ wrote.Done
@@ -72,21 +72,47 @@ handed-at l b f g t p q m = m ∙ ap (λ (x : Bench). handedOf x f) p ∙ ap (ha
 left : (r q : Rig) (s e : List ℕ) (at : ℕ) → q ≡ r → at + 40 ≤ length s → e ≡ filledOf q s at → take 40 (drop at e) ≡ nextFrame r
 left r q s e at p h m = ap (λ (x : List ℕ). take 40 (drop at x)) (m ∙ ap (λ (x : Rig). filledOf x s at) p) ∙ stands r s at h
 
+-- what a call that writes leaves, from its contract: the answer is `by` of bench, buffer and place
+module _ (by : Bench → List ℕ → ℕ → Sent) (l : Line) (b : Bench) (s left : List ℕ) (at : ℕ) (t : Sent) (p : b ≡ benchAt l)
+    (m : t ≡ by b s at) (n : left ≡ filledOf (b .rig) s at) where
+  at-line : t ≡ by (benchAt l) s at
+  at-line = m ∙ ap (λ (x : Bench). by x s at) p
+
+  wrote-it : (k : Line) → at + 40 ≤ length s → by (benchAt l) s at .wrote ≡ wroteOf at s → by (benchAt l) s at .bench ≡ benchAt k → Written l k s at t left
+  wrote-it k h u v = (
+    ap sentBench at-line ∙ v,
+    ap (λ (x : Sent). x .wrote) at-line ∙ u ∙ writes (l .rig) s at h,
+    n ∙ ap (λ (x : Bench). filledOf (x .rig) s at) p,
+  )
+
+  wrote-none : length s < at + 40 → by (benchAt l) s at .wrote ≡ wroteOf at s → by (benchAt l) s at .bench ≡ benchAt l → NoRoom l s t left
+  wrote-none h u v = (
+    ap sentBench at-line ∙ v,
+    ap (λ (x : Sent). x .wrote) at-line ∙ u ∙ no-room s at h,
+    n ∙ short (heldOf (b .rig)) (b .rig .sending .next) (nextLatch (b .rig)) at s h .1,
+  )
+
+-- with no room the bench is as it was
+built-none : (l : Line) (s : List ℕ) (at : ℕ) → length s < at + 40 → builtBench (benchAt l) s at .bench ≡ benchAt l
+built-none l s at h = rw (no-room s at h) refl
+
+arrived-none : (l : Line) (s : List ℕ) (at : ℕ) → length s < at + 40 → arrivedBench (benchAt l) s at .bench ≡ benchAt l
+arrived-none l s at h = rw (no-room s at h) refl
+
+lost-none : (l : Line) (s : List ℕ) (at : ℕ) → length s < at + 40 → lostBench (benchAt l) s at .bench ≡ benchAt l
+lost-none l s at h = rw (no-room s at h) refl
+
 pub played-slots : PlayedSlots
 played-slots =
     record {
       builds = λ l κs a e t p h m.
           let s = now (a .1 .0) in
           let at = a .1 .1 .0 in
-          (ap sentBench (m .0 ∙ ap (λ (b : Bench). builtBench b s at) p) ∙ built-bench l s at h, ap (λ (t : Sent). t .wrote) (m .0) ∙ writes (l .rig) s at h);
+          wrote-it builtBench l (a .0) s (e .1 .0 .now) at t p (m .0) (m .1) (then l built) h refl (built-bench l s at h);
       room18 = λ l κs a e t p h m.
           let s = now (a .1 .0) in
           let at = a .1 .1 .0 in
-          let r = a .0 .rig in (
-            ap sentBench (m .0 ∙ ap (λ (b : Bench). builtBench b s at) p),
-            ap (λ (t : Sent). t .wrote) (m .0) ∙ no-room s at h,
-            m .1 ∙ short (heldOf r) (r .sending .next) (nextLatch r) at s h .1,
-          );
+          (ap sentBench (m .0 ∙ ap (λ (b : Bench). builtBench b s at) p), wrote-none builtBench l (a .0) s (e .1 .0 .now) at t p (m .0) (m .1) h refl (built-none l s at h));
       hands = λ l r rs o κs a e q x h m κt b f t p g n.
           let k = handed-at l (b .0) (now (b .1 .0)) (nextFrame r) t p (g ∙ left r (a .0 .rig) (now (a .1 .0)) (e .1 .0 .now) (a .1 .1 .0) x h (m .1)) n in (
             ap handedBench k ∙ sym (ap (λ (x : List Rig). benchAt (arrive proved l x)) o),
@@ -116,11 +142,19 @@ played-slots =
       whole = λ l o κs a e t p h m.
           let s = now (a .1 .0) in
           let at = a .1 .1 .0 in
-          ap sentBench (m .0 ∙ ap (λ (b : Bench). arrivedBench b s at) p) ∙ arrived-bench l s at o h;
+          wrote-it arrivedBench l (a .0) s (e .1 .0 .now) at t p (m .0) (m .1) (then (then l built) came) h refl (arrived-bench l s at o h);
       lost = λ l o κs a e t p h m.
           let s = now (a .1 .0) in
           let at = a .1 .1 .0 in
-          ap sentBench (m .0 ∙ ap (λ (b : Bench). lostBench b s at) p) ∙ lost-bench l s at o h;
+          wrote-it lostBench l (a .0) s (e .1 .0 .now) at t p (m .0) (m .1) (then (then l built) (gone marked)) h refl (lost-bench l s at o h);
+      whole18 = λ l κs a e t p h m.
+          let s = now (a .1 .0) in
+          let at = a .1 .1 .0 in
+          wrote-none arrivedBench l (a .0) s (e .1 .0 .now) at t p (m .0) (m .1) h refl (arrived-none l s at h);
+      lost18 = λ l κs a e t p h m.
+          let s = now (a .1 .0) in
+          let at = a .1 .1 .0 in
+          wrote-none lostBench l (a .0) s (e .1 .0 .now) at t p (m .0) (m .1) h refl (lost-none l s at h);
       asks-build = λ κs a. tt;
       asks-hand = λ κs a. tt;
       asks-miss = λ b. tt;

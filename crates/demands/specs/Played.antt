@@ -59,6 +59,14 @@ abbrev pub Handing : Line → List ℕ → (Handed → Type 0) → Type 0
 Handing l f P =
     (κs : Lfts 1) (a : Dens κs hand-kinds.ps) (e : HandExit κs) (t : Handed) → a .0 ≡ benchAt l → now (a .1 .0) ≡ f → hand-fn.Post κs a t e → P t
 
+-- a frame written: the bench is that of the line k, and of the buffer s the 40 bytes at the place are the frame of the line l, and no other byte has moved
+abbrev pub Written : Line → Line → List ℕ → ℕ → Sent → List ℕ → Type 0
+Written l k s at t left = (t .bench ≡ benchAt k) × (t .wrote ≡ wrote.Done) × (left ≡ proved .filled (l .rig) s at)
+
+-- no room (18): bench and buffer are as they were, and no slot passes
+abbrev pub NoRoom : Line → List ℕ → Sent → List ℕ → Type 0
+NoRoom l s t left = (t .bench ≡ benchAt l) × (t .wrote ≡ wrote.Refused (numbered 18)) × (left ≡ s)
+
 -- what happens to the rig alone
 pub record PlayedAlone : Type 0 where
   pub fresh : (b : Bench) → fresh-fn.Post tt tt b tt → b ≡ benchAt (begin proved)
@@ -80,10 +88,10 @@ pub record PlayedSlots : Type 0 where
   -- a frame built, at any place of any buffer with room; and where there is none (18)
   pub builds : (l : Line) (κs : Lfts 1) (a : Dens κs build-kinds.ps) (e : BuildExit κs) (t : Sent)
       → a .0 ≡ benchAt l → a .1 .1 .0 + 40 ≤ length (now (a .1 .0)) → build-fn.Post κs a t e
-      → (t .bench ≡ benchAt (then l built)) × (t .wrote ≡ wrote.Done)
+      → Written l (then l built) (now (a .1 .0)) (a .1 .1 .0) t (e .1 .0 .now)
   pub room18 : (l : Line) (κs : Lfts 1) (a : Dens κs build-kinds.ps) (e : BuildExit κs) (t : Sent)
       → a .0 ≡ benchAt l → (h : length (now (a .1 .0)) < a .1 .1 .0 + 40) → build-fn.Post κs a t e
-      → (t .bench ≡ benchAt (then l (alone (noRoom (now (a .1 .0)) (a .1 .1 .0) h)))) × (t .wrote ≡ wrote.Refused (numbered 18)) × (e .1 .0 .now ≡ now (a .1 .0))
+      → (t .bench ≡ benchAt (then l (alone (noRoom (now (a .1 .0)) (a .1 .1 .0) h)))) × NoRoom l (now (a .1 .0)) t (e .1 .0 .now)
   -- The oldest frame on its way arrives: it was built by a call of `build` with the rig as it then was, in whatever buffer, and the very bytes that this
   -- call left at its place are handed over.
   pub hands : (l : Line) (r : Rig) (rs : List Rig) → Oldest l r rs
@@ -103,9 +111,16 @@ pub record PlayedSlots : Type 0 where
       → Handing l f (λ t. (t .bench ≡ benchAt (then l (torn f n))) × (t .answer ≡ desk.Refused (numbered 17)))
   -- built and handed over in one, or built and lost in one: with nothing on its way, the two steps one after the other
   pub whole : (l : Line) → l .way ≡ [] → (κs : Lfts 1) (a : Dens κs arrives-kinds.ps) (e : AtExit (endedOf 1 arrives-kinds.ps arrives-kinds.r) κs) (t : Sent)
-      → a .0 ≡ benchAt l → a .1 .1 .0 + 40 ≤ length (now (a .1 .0)) → arrives-fn.Post κs a t e → t .bench ≡ benchAt (then (then l built) came)
+      → a .0 ≡ benchAt l → a .1 .1 .0 + 40 ≤ length (now (a .1 .0)) → arrives-fn.Post κs a t e
+      → Written l (then (then l built) came) (now (a .1 .0)) (a .1 .1 .0) t (e .1 .0 .now)
   pub lost : (l : Line) → l .way ≡ [] → (κs : Lfts 1) (a : Dens κs lost-kinds.ps) (e : AtExit (endedOf 1 lost-kinds.ps lost-kinds.r) κs) (t : Sent)
-      → a .0 ≡ benchAt l → a .1 .1 .0 + 40 ≤ length (now (a .1 .0)) → lost-fn.Post κs a t e → t .bench ≡ benchAt (then (then l built) (gone marked))
+      → a .0 ≡ benchAt l → a .1 .1 .0 + 40 ≤ length (now (a .1 .0)) → lost-fn.Post κs a t e
+      → Written l (then (then l built) (gone marked)) (now (a .1 .0)) (a .1 .1 .0) t (e .1 .0 .now)
+  -- and where there is no room, neither
+  pub whole18 : (l : Line) (κs : Lfts 1) (a : Dens κs arrives-kinds.ps) (e : AtExit (endedOf 1 arrives-kinds.ps arrives-kinds.r) κs) (t : Sent)
+      → a .0 ≡ benchAt l → length (now (a .1 .0)) < a .1 .1 .0 + 40 → arrives-fn.Post κs a t e → NoRoom l (now (a .1 .0)) t (e .1 .0 .now)
+  pub lost18 : (l : Line) (κs : Lfts 1) (a : Dens κs lost-kinds.ps) (e : AtExit (endedOf 1 lost-kinds.ps lost-kinds.r) κs) (t : Sent)
+      → a .0 ≡ benchAt l → length (now (a .1 .0)) < a .1 .1 .0 + 40 → lost-fn.Post κs a t e → NoRoom l (now (a .1 .0)) t (e .1 .0 .now)
   -- they ask nothing
   pub asks-build : (κs : Lfts 1) (a : Dens κs build-kinds.ps) → build-fn.Pre κs a
   pub asks-hand : (κs : Lfts 1) (a : Dens κs hand-kinds.ps) → hand-fn.Pre κs a
