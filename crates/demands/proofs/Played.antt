@@ -113,6 +113,7 @@ played-slots =
           let s = now (a .1 .0) in
           let at = a .1 .1 .0 in
           (ap sentBench (m .0 ∙ ap (λ (b : Bench). builtBench b s at) p), wrote-none builtBench l (a .0) s (e .1 .0 .now) at t p (m .0) (m .1) h refl (built-none l s at h));
+      any = λ l f κs a e t p g m. let k = handed-at l (a .0) (now (a .1 .0)) f t p g m in (ap handedBench k, ap (λ (t : Handed). t .answer) k);
       hands = λ l r rs o κs a e q x h m κt b f t p g n.
           let k = handed-at l (b .0) (now (b .1 .0)) (nextFrame r) t p (g ∙ left r (a .0 .rig) (now (a .1 .0)) (e .1 .0 .now) (a .1 .1 .0) x h (m .1)) n in (
             ap handedBench k ∙ sym (ap (λ (x : List Rig). benchAt (arrive proved l x)) o),

@@ -92,6 +92,9 @@ pub record PlayedSlots : Type 0 where
   pub room18 : (l : Line) (κs : Lfts 1) (a : Dens κs build-kinds.ps) (e : BuildExit κs) (t : Sent)
       → a .0 ≡ benchAt l → (h : length (now (a .1 .0)) < a .1 .1 .0 + 40) → build-fn.Post κs a t e
       → (t .bench ≡ benchAt (then l (alone (noRoom (now (a .1 .0)) (a .1 .1 .0) h)))) × NoRoom l (now (a .1 .0)) t (e .1 .0 .now)
+  -- whatever bytes are handed over, foreign frames too, the desk takes them as the demands say of it, and the rig stays
+  pub any : (l : Line) (f : List ℕ)
+      → Handing l f (λ t. (t .bench ≡ record { rig = l .rig; desk = proved .slot (l .desk) f .desk }) × (t .answer ≡ proved .slot (l .desk) f .answer))
   -- The oldest frame on its way arrives: it was built by a call of `build` with the rig as it then was, in whatever buffer, and the very bytes that this
   -- call left at its place are handed over.
   pub hands : (l : Line) (r : Rig) (rs : List Rig) → Oldest l r rs
