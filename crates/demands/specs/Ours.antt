@@ -7,6 +7,8 @@ use contract.Lifetimes.{Lfts}
 use denote.Ref.{RefT, now}
 use denote.Triple.Clauses.{AtExit}
 use borrow.Fn.Kinds.{Dens, endedOf}
+use Rattle.crc.specs.Crc.{crcOf}
+use Rattle.crc.proofs.check_of.Reads as check-fn
 use Rattle.judge.specs.declared.Refusal.{Refusal}
 use Rattle.judge.specs.Refusals.{numberOf}
 use Rattle.judge.proofs.number.Reads as word-number-fn
@@ -80,7 +82,7 @@ pub record OurOutfit : Type 0 where
   pub asks-missed : (d : Desk) → missed-fn.Pre tt (d, tt)
   pub asks-look : (d : Desk) (item : Item) → look-fn.Pre tt (d, (item, tt))
 
--- The functions that take blocks apart, the sheet, and the numbers that the refusals are told by: what demands 1 and 2 say of their definitions they say
+-- The functions that take blocks apart, the check, the sheet, and the numbers that the refusals are told by: what demands 1 and 2 say of their definitions they say
 -- of the code. b is the lent slice.
 pub record OurBlocks : Type 0 where
   pub locate : (κs : Lfts 1) (b : RefT (List ℕ)) (p : Part) (x : Located) → locate-fn.Post κs (b, (p, tt)) x (b, (p, tt)) → x ≡ locateOf (now b) p
@@ -88,6 +90,7 @@ pub record OurBlocks : Type 0 where
   pub event : (κs : Lfts 1) (b : RefT (List ℕ)) (n : ℕ) (x : Evented) → event-fn.Post κs (b, (n, tt)) x (b, (n, tt)) → x ≡ directOf (now b) n
   pub ifftEvent : (κs : Lfts 1) (b : RefT (List ℕ)) (n : ℕ) (x : Evented) → ifft-event-fn.Post κs (b, (n, tt)) x (b, (n, tt)) → x ≡ eventOf (now b) n
   pub ifftItem : (κs : Lfts 1) (b : RefT (List ℕ)) (n : ℕ) (x : Itemed) → ifft-item-fn.Post κs (b, (n, tt)) x (b, (n, tt)) → x ≡ itemOf (now b) n
+  pub check : (κs : Lfts 1) (b : RefT (List ℕ)) (x : ℕ) → check-fn.Post κs (b, tt) x (b, tt) → x ≡ crcOf (now b)
   pub sheet : (x y : ℕ) (s : Sheet) → sheet-fn.Post tt (x, (y, tt)) s (x, (y, tt)) → Shows x y s
   pub wordNumber : (r : Refusal) (n : ℕ) → word-number-fn.Post tt (r, tt) n (r, tt) → n ≡ numberOf r
   pub frameNumber : (r : FrameRefusal) (n : ℕ) → frame-number-fn.Post tt (r, tt) n (r, tt) → n ≡ items.numberOf r
@@ -98,6 +101,7 @@ pub record OurBlocks : Type 0 where
   pub asks-event : (κs : Lfts 1) (b : RefT (List ℕ)) (n : ℕ) → event-fn.Pre κs (b, (n, tt))
   pub asks-ifftEvent : (κs : Lfts 1) (b : RefT (List ℕ)) (n : ℕ) → ifft-event-fn.Pre κs (b, (n, tt))
   pub asks-ifftItem : (κs : Lfts 1) (b : RefT (List ℕ)) (n : ℕ) → ifft-item-fn.Pre κs (b, (n, tt))
+  pub asks-check : (κs : Lfts 1) (b : RefT (List ℕ)) → check-fn.Pre κs (b, tt)
   pub asks-sheet : (x y : ℕ) → sheet-fn.Pre tt (x, (y, tt))
   pub asks-wordNumber : (r : Refusal) → word-number-fn.Pre tt (r, tt)
   pub asks-frameNumber : (r : FrameRefusal) → frame-number-fn.Pre tt (r, tt)
