@@ -30,15 +30,18 @@ use Rattle.desk.specs.declared.Shown.the-variants.{Known}
 use Rattle.desk.specs.declared.Received.{Received}
 use Rattle.desk.specs.Laws.{answered}
 use Rattle.judge.specs.declared.Settings.{Settings}
+use Rattle.judge.specs.declared.Core.{Core}
 use Rattle.rig.specs.declared.Faults.{Faults}
 use Rattle.rig.specs.declared.Pending.{Pending}
 use Rattle.rig.specs.declared.Panel.{Panel}
 use Rattle.rig.specs.declared.Sending.{Sending}
 use Rattle.rig.specs.declared.Rig.{Rig}
 use Rattle.rig.specs.Words.{takeOf}
-use Rattle.power.specs.Power.{spunOf}
+use Rattle.power.specs.declared.PanelSetting.{PanelSetting}
+use Rattle.power.specs.Power.{spunOf, setOf}
 use Rattle.sending.specs.Sending.{sent}
-use Rattle.laws.specs.Runs.{Spun}
+use Rattle.laws.specs.Runs.{Spun, SetMoves, SentMoves}
+use Rattle.laws.proofs.Runs.{panel-is}
 use Rattle.laws.proofs.Replies.{reply-laws}
 use Rattle.laws.proofs.Rows.{row-laws}
 use Rattle.laws.proofs.One as laws
@@ -155,6 +158,26 @@ spin-is : (r q : Rig) → Spun r q → q ≡ spunOf r
 spin-is r q m =
     parts-are (spunOf r) q (level-is (r .core .supply) (q .core .supply) (m .supply)) (m .settings) (m .faults) (m .pending) (m .check) (m .panel) (m .sending) (m .edbs)
 
+set-is : (r : Rig) (s : PanelSetting) (q : Rig) → SetMoves r s q → q ≡ setOf r s
+unfolding setOf
+set-is r s q m =
+    let k = m .kept in
+    parts-are (setOf r s) q (ap (λ (c : Core). c .supply) (k .core)) (ap (λ (c : Core). c .settings) (k .core)) (k .faults) (k .pending) (k .check)
+    (m .panel ∙ sym (panel-is (r .panel) s)) (m .sending) (k .edbs)
+
+sends : ℕ → ℕ → Sending
+sends i l = record { next = i; latch = l }
+
+same-sends : {i j l m : ℕ} → i ≡ j → l ≡ m → sends i l ≡ sends j m
+same-sends p q = cc
+
+sent-is : (r q : Rig) → SentMoves r q → q ≡ sent r
+unfolding sends
+sent-is r q m =
+    let k = m .kept in
+    parts-are (sent r) q (ap (λ (c : Core). c .supply) (k .core)) (ap (λ (c : Core). c .settings) (k .core)) (k .faults) (k .pending) (k .check)
+    (m .panel) (same-sends (m .next) (m .latch)) (k .edbs)
+
 pub one-rig : OneRig
 one-rig o one two =
     let frame = two .frame in
@@ -162,16 +185,16 @@ one-rig o one two =
       start = two .start;
       take = λ r w. laws.one-rig (o .rig .take) takeOf (two .rows) (one .words) row-laws reply-laws r w;
       spin = λ r. spin-is r (o .rig .spin r) (two .runs .spin r);
-      set = two .set;
+      set = λ r s. set-is r s (o .rig .set r s) (two .runs .set r s);
       cut = λ r. two .runs .cut r ∙ two .start;
-      sent = two .sent;
+      sent = λ r. sent-is r (o .rig .sent r) (two .runs .sent r);
       frame = frame;
       build = λ r b at.
           split (ltb (length b) (at + 40))
           (λ t. let h = ltb-true _ _ t in one .room18 r b at h .0 ∙ sym (demand-1 .room18 r b at h .0))
           (λ t.
           let h = ltb-false _ _ t in
-          one .room r b at h .0 ∙ ap (λ (q : Rig). record { rig = q; answer = wrote.Done }) (two .sent r) ∙ sym (demand-1 .room r b at h .0));
+          one .room r b at h .0 ∙ ap (λ (q : Rig). record { rig = q; answer = wrote.Done }) (sent-is r (o .rig .sent r) (two .runs .sent r)) ∙ sym (demand-1 .room r b at h .0));
       filled = λ r b at.
           split (ltb (length b) (at + 40))
           (λ t. let h = ltb-true _ _ t in one .room18 r b at h .1 ∙ sym (demand-1 .room18 r b at h .1))

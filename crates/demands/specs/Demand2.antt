@@ -17,9 +17,7 @@ use Rattle.frame.specs.Read.{carries, readOf}
 use Rattle.frame.specs.Laws.{Laws}
 use Rattle.rig.specs.declared.Rig.{Rig}
 use Rattle.rig.specs.Start.{startRig}
-use Rattle.power.specs.declared.PanelSetting.{PanelSetting}
-use Rattle.power.specs.Power.{setOf}
-use Rattle.sending.specs.Sending.{heldOf, sent}
+use Rattle.sending.specs.Sending.{heldOf}
 use Rattle.laws.specs.Rows.{RowLaws}
 use Rattle.laws.specs.Blocks.{BlockLaws}
 use Rattle.laws.specs.Runs.{Event, reached, RunLaws}
@@ -43,17 +41,15 @@ pub record Demand2For (o : Outfit) : Type 0 where
   pub blocks : BlockLaws (o .rig .take)
   -- the lists of codes, the bits that are read and those that are not
   pub table : TableLaws
-  -- the start, as 01 lists it; a setting by the instructor moves that part of the panel alone
+  -- the start, as 01 lists it
   pub start : o .rig .start ≡ startRig
-  pub set : (r : Rig) (s : PanelSetting) → o .rig .set r s ≡ setOf r s
   -- one supply: its commands, its spins, how far they bring the level
   pub supply : SupplyLaws
-  -- over every run: counts, codes, last check, long EDB counter, the bounds of every field; and for every rig, what a spin and a power cut do
+  -- over every run: counts, codes, last check, long EDB counter, the bounds of every field; and for every rig, what a setting, a frame built,
+  -- a spin and a power cut do
   pub runs : RunLaws (o .rig)
   -- a frame shows what the rig holds as it is built; a spread number is latched at its first frame and written from the latch
   pub frame : (r : Rig) → o .frame r ≡ frameOf (heldOf r) (r .sending .next) (latchOf (heldOf r) (r .sending .next) (r .sending .latch))
-  -- building it moves the index, modulo 32, and the latch, and nothing else
-  pub sent : (r : Rig) → o .rig .sent r ≡ sent r
   -- accepted settings show in the next frame that carries them: of every rig that a run has reached, each plain item that the frame carries is read
   -- back as it is held
   pub shown : (es : List Event) (k : ℕ) → k < 25 → carries k (reached (o .rig) es .sending .next) ≡ true

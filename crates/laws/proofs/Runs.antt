@@ -24,7 +24,7 @@ use Rattle.rig.specs.Start.{startRig}
 use Rattle.power.specs.Power.{panelOf, setOf}
 use Rattle.sending.specs.Sending.{heldOf, bit, nextLatch}
 use Rattle.laws.specs.Replies.{closing}
-use Rattle.laws.specs.Runs.{FitsPanel, Event, word, spin, set, cut, frame, ours, after, run, heldAs, Ledger, blank, latestError, latestCode, entered, ledger, reached, given, Bounds, RunLaws}
+use Rattle.laws.specs.Runs.{FitsPanel, Event, word, spin, set, cut, frame, ours, after, run, heldAs, Ledger, blank, latestError, latestCode, entered, ledger, reached, given, Bounds, panelBy, Kept, SetMoves, RunLaws}
 use Rattle.laws.proofs.Tests.{by-test}
 use Rattle.laws.proofs.Words.{case}
 use Rattle.laws.proofs.Replies.{reply-laws}
@@ -199,6 +199,20 @@ widths r b =
     let flap3 = bit-small (p .flap3) in
     under (heldAt (heldOf r)) remOf 25 (omega arith)
 
+pub panel-is : (p : Panel) (s : PanelSetting) → panelOf p s ≡ panelBy p s
+panel-is p (Bias b) = refl
+panel-is p (Ground b) = refl
+panel-is p (FreeTime t) = refl
+panel-is p (Flaps a b c) = refl
+
+all-kept : (r : Rig) (p : Panel) (s : Sending)
+    → Kept r (record { core = r .core; faults = r .faults; pending = r .pending; check = r .check; panel = p; sending = s; edbs = r .edbs })
+all-kept r p s = record { core = refl; faults = refl; pending = refl; check = refl; edbs = refl }
+
+set-moves : (r : Rig) (s : PanelSetting) → SetMoves r s (setOf r s)
+unfolding setOf
+set-moves r s = record { panel = panel-is (r .panel) s; sending = refl; kept = all-kept r (panelOf (r .panel) s) (r .sending) }
+
 pub run-laws : RunLaws ours
 run-laws =
     record {
@@ -211,6 +225,8 @@ run-laws =
       holds = λ es. always es .holds;
       bounds = λ es. bounded (always es);
       widths = λ es. widths (reached ours es) (bounded (always es));
+      set = set-moves;
+      sent = λ r. record { next = refl; latch = refl; panel = refl; kept = all-kept r (r .panel) _ };
       spin = λ r. record { supply = spin-moves (r .core .supply); edbs = refl; settings = refl; faults = refl; pending = refl; check = refl; panel = refl; sending = refl };
       cut = λ r. refl;
     }

@@ -20,6 +20,7 @@ use Rattle.rig.specs.declared.Answer.the-variants.{Accepted, Waiting, Refused}
 use Rattle.rig.specs.declared.Reply.{Reply}
 use Rattle.rig.specs.declared.Reply.the-variants.{Plain, Swallowed, Dropped}
 use Rattle.rig.specs.declared.Taken.{Taken}
+use Rattle.rig.specs.declared.Panel.{Panel}
 use Rattle.rig.specs.declared.Pending.{Pending}
 use Rattle.rig.specs.Words.{takeOf}
 use Rattle.rig.specs.Replies.{refusalsOf}
@@ -226,6 +227,36 @@ pub record Spun (r q : Rig) : Type 0 where
   pub panel : q .panel ≡ r .panel
   pub sending : q .sending ≡ r .sending
 
+-- the panel after a setting: that part of it alone
+abbrev pub panelBy : Panel → PanelSetting → Panel
+panelBy p (Bias b) = record { bias = b; ground = p .ground; free = p .free; flap1 = p .flap1; flap2 = p .flap2; flap3 = p .flap3 }
+panelBy p (Ground b) = record { bias = p .bias; ground = b; free = p .free; flap1 = p .flap1; flap2 = p .flap2; flap3 = p .flap3 }
+panelBy p (FreeTime t) = record { bias = p .bias; ground = p .ground; free = t; flap1 = p .flap1; flap2 = p .flap2; flap3 = p .flap3 }
+panelBy p (Flaps a b c) = record { bias = p .bias; ground = p .ground; free = p .free; flap1 = a; flap2 = b; flap3 = c }
+
+-- what neither a setting nor a frame moves
+pub record Kept (r q : Rig) : Type 0 where
+  pub core : q .core ≡ r .core
+  pub faults : q .faults ≡ r .faults
+  pub pending : q .pending ≡ r .pending
+  pub check : q .check ≡ r .check
+  pub edbs : q .edbs ≡ r .edbs
+
+-- the rig q after a setting of the rig r: the panel moves, and nothing else
+pub record SetMoves (r : Rig) (s : PanelSetting) (q : Rig) : Type 0 where
+  pub panel : q .panel ≡ panelBy (r .panel) s
+  pub sending : q .sending ≡ r .sending
+  pub kept : Kept r q
+
+-- the rig q once the rig r has built its next frame: the index goes on, modulo 32; the long EDB counter is latched at index 0 and the free time at 27;
+-- nothing else moves
+pub record SentMoves (r q : Rig) : Type 0 where
+  pub next : q .sending .next ≡ (r .sending .next + 1) % 32
+  pub latch : q .sending .latch
+      ≡ pick (eqb (r .sending .next % 32) 0) (r .edbs .0) (pick (eqb (r .sending .next % 32) 27) (r .panel .free) (r .sending .latch))
+  pub panel : q .panel ≡ r .panel
+  pub kept : Kept r q
+
 -- what every run keeps, of the functions of any rig
 pub record RunLaws (m : Machine) : Type 0 where
   -- the invalid count is the number of refusals given since the last power cut, modulo 256
@@ -245,6 +276,8 @@ pub record RunLaws (m : Machine) : Type 0 where
   pub bounds : (es : List Event) → Bounds (reached m es)
   -- what a frame shows of each plain item fits the item's width, so that nothing is cut off
   pub widths : (es : List Event) (k : ℕ) → k < 25 → heldAt (heldOf (reached m es)) k < remOf k
-  -- a spin moves every rig so, and a power cut returns it to the start
+  -- a setting and a frame move every rig so, and so does a spin; a power cut returns it to the start
+  pub set : (r : Rig) (s : PanelSetting) → SetMoves r s (m .set r s)
+  pub sent : (r : Rig) → SentMoves r (m .sent r)
   pub spin : (r : Rig) → Spun r (m .spin r)
   pub cut : (r : Rig) → m .cut r ≡ m .start
