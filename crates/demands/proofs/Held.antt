@@ -50,7 +50,7 @@ true-rows (r ∷ rs) t = (true-row r (t .0), true-rows rs (t .1))
 
 computed : AllComputed table
 unfolding doing builds takeOf pendingOf droppedOf closedOf verdictOf freshOf headOf settledOf refusedOf kindOf blockOf countedOf singleOf modeCmd carried relayed targeted limited switched crcOf crcFrom shift setOf frameOf muxOf groundAt quarterOf
-computed = ((tt, (refl, tt)), ((tt, (refl, tt)), ((tt, (refl, tt)), ((tt, (refl, tt)), ((tt, (refl, tt)), ((tt, (refl, tt)), ((tt, (refl, tt)), ((tt, (refl, (refl, tt))), ((tt, (refl, (refl, tt))), ((tt, (refl, (refl, tt))), ((tt, (refl, (refl, tt))), ((tt, (refl, (refl, tt))), ((tt, (refl, (refl, (refl, tt)))), ((tt, (refl, tt)), ((tt, (refl, tt)), ((tt, (refl, (refl, tt))), ((tt, (refl, tt)), ((tt, (refl, tt)), ((tt, (refl, tt)), ((tt, (refl, (refl, (refl, tt)))), ((tt, (refl, tt)), tt)))))))))))))))))))))
+computed = ((tt, (refl, tt)), ((tt, (refl, tt)), ((tt, (refl, tt)), ((tt, (refl, tt)), ((tt, (refl, tt)), ((tt, (refl, tt)), ((tt, (refl, tt)), ((tt, (refl, (refl, tt))), ((tt, (refl, (refl, tt))), ((tt, (refl, (refl, tt))), ((tt, (refl, (refl, tt))), ((tt, (refl, (refl, tt))), ((tt, (refl, (refl, (refl, tt)))), ((tt, (refl, tt)), ((tt, (refl, tt)), ((tt, (refl, tt)), ((tt, (refl, (refl, tt))), ((tt, (refl, tt)), ((tt, (refl, tt)), ((tt, (refl, tt)), ((tt, (refl, (refl, (refl, (refl, tt))))), ((tt, (refl, (refl, tt))), tt))))))))))))))))))))))
 
 pub held-table : HeldTable proved held
 held-table = true-rows table computed

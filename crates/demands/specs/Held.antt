@@ -6,7 +6,7 @@ use mathlib.Core.Bool.{Bool, true, false, not, _&&_, _||_}
 use mathlib.Core.List.{List, [], _∷_}
 use Prim.Native.Nat.{ℕ, zero, suc}
 use lib.Dec.{eqb}
-use lib.ListN.{getD}
+use lib.ListN.{getD, replicate}
 use Rattle.base.specs.Pick.{pick}
 use Rattle.frame.specs.declared.Item.{Item}
 use Rattle.frame.specs.declared.Item.the-variants.{Parallel, Multiplexer1, Multiplexer2, Multiplexer3, ErrorCode, DirectionStop, DirectionStart, EnergyStop, EnergyStart, LastInvalidCode, IelEnable, ReducedCounter, Bias, Relay, Ground, Stepping, Limit, Level, Flap1, Flap2, Flap3, IelClock, LastCheck, InvalidCount, HeadMask, LongCounter, FreeTime}
@@ -52,20 +52,21 @@ table =
     ∷ row (send 0x6002 ∷ send 0xA001 ∷ send 0xA000 ∷ send 0xE015 ∷ []) ((Multiplexer1, 1) ∷ (LastCheck, 0x15) ∷ []) ((0, (6, 0x01)) ∷ (21, (39, 0x15)) ∷ [])
     ∷ row (send 0x6002 ∷ send 0xA008 ∷ send 0xA000 ∷ send 0xE0A8 ∷ []) ((Multiplexer2, 1) ∷ (LastCheck, 0xA8) ∷ []) ((0, (6, 0x08)) ∷ (21, (39, 0xA8)) ∷ [])
     ∷ row (send 0x6002 ∷ send 0xA040 ∷ send 0xA000 ∷ send 0xE05B ∷ []) ((Multiplexer3, 1) ∷ (LastCheck, 0x5B) ∷ []) ((0, (6, 0x40)) ∷ (21, (39, 0x5B)) ∷ [])
-    ∷ row (send 0x6302 ∷ send 0xA303 ∷ send 0xA313 ∷ send 0xE346 ∷ []) ((DirectionStart, 3) ∷ (DirectionStop, 0x13) ∷ (LastCheck, 0x46) ∷ []) ((0, (8, 0x09)) ∷ (0, (9, 0x8C)) ∷ [])
-    ∷ row (send 0x6402 ∷ send 0xA405 ∷ send 0xA409 ∷ send 0xE47E ∷ []) ((EnergyStart, 5) ∷ (EnergyStop, 9) ∷ (LastCheck, 0x7E) ∷ []) ((0, (9, 0x01)) ∷ (0, (10, 0x25)) ∷ [])
-    -- two refusals: 04h, then 0Bh
-    ∷ row (send 0x2805 ∷ send 0x0822 ∷ []) ((ErrorCode, 0x0B) ∷ (LastInvalidCode, 0x08) ∷ (InvalidCount, 2) ∷ []) ((0, (7, 0xB0)) ∷ (0, (16, 0x08)) ∷ (22, (39, 2)) ∷ [])
+    ∷ row (send 0x6302 ∷ send 0xA31E ∷ send 0xA315 ∷ send 0xE3EA ∷ []) ((DirectionStart, 0x1E) ∷ (DirectionStop, 0x15) ∷ (LastCheck, 0xEA) ∷ []) ((0, (8, 0x0A)) ∷ (0, (9, 0xF8)) ∷ [])
+    ∷ row (send 0x6402 ∷ send 0xA413 ∷ send 0xA41D ∷ send 0xE43B ∷ []) ((EnergyStart, 0x13) ∷ (EnergyStop, 0x1D) ∷ (LastCheck, 0x3B) ∷ []) ((0, (9, 0x03)) ∷ (0, (10, 0xB3)) ∷ [])
+    -- refusals: 0822 255 times, both relay bits; a stray end word
+    ∷ row (replicate 255 (send 0x0822)) ((ErrorCode, 0x0B) ∷ (LastInvalidCode, 0x08) ∷ (InvalidCount, 255) ∷ []) ((0, (7, 0xB0)) ∷ (0, (16, 0x08)) ∷ (22, (39, 255)) ∷ [])
+    ∷ row (send 0xFE00 ∷ []) ((ErrorCode, 0x0B) ∷ (LastInvalidCode, 0xFE) ∷ (InvalidCount, 1) ∷ []) ((0, (16, 0xFE)) ∷ [])
     -- the instructor's settings
     ∷ row (set (panel.Bias 0x9A) ∷ []) ((Bias, 0x9A) ∷ []) ((0, (36, 0x9A)) ∷ [])
-    ∷ row (set (panel.Ground 0x70) ∷ []) ((Ground, 0x70) ∷ []) ((0, (38, 0x70)) ∷ [])
-    ∷ row (set (panel.FreeTime 0x1234) ∷ []) ((FreeTime, 0x1234) ∷ []) ((27, (39, 0x12)) ∷ (28, (39, 0x34)) ∷ [])
+    ∷ row (set (panel.Ground 0xD7) ∷ []) ((Ground, 0xD7) ∷ []) ((0, (38, 0xD7)) ∷ [])
+    ∷ row (set (panel.FreeTime 0xF234) ∷ []) ((FreeTime, 0xF234) ∷ []) ((27, (39, 0xF2)) ∷ (28, (39, 0x34)) ∷ [])
     ∷ row (set (panel.Flaps true false false) ∷ []) ((Flap1, 1) ∷ []) ((12, (39, 0x10)) ∷ [])
     ∷ row (set (panel.Flaps false true false) ∷ []) ((Flap2, 1) ∷ []) ((12, (39, 0x20)) ∷ [])
     ∷ row (set (panel.Flaps false false true) ∷ []) ((Flap3, 1) ∷ []) ((12, (39, 0x40)) ∷ [])
-    -- spins; and two towards the target 3
-    ∷ row (spin ∷ spin ∷ spin ∷ []) ((LongCounter, 3) ∷ (ReducedCounter, 2) ∷ []) ((0, (20, 2)) ∷ (2, (39, 0)) ∷ (3, (39, 3)) ∷ [])
-    ∷ row (send 0x0802 ∷ send 0x2D01 ∷ send 0x290A ∷ send 0x2803 ∷ spin ∷ spin ∷ []) ((Relay, 1) ∷ (Stepping, 1) ∷ (Limit, 10) ∷ (Level, 2) ∷ (LongCounter, 2) ∷ (ReducedCounter, 1) ∷ []) ((3, (37, 0x20)) ∷ [])
+    -- spins; and those that bring the level to the target 15
+    ∷ row (replicate 300 spin) ((LongCounter, 300) ∷ (ReducedCounter, 43) ∷ []) ((0, (20, 43)) ∷ (1, (39, 0)) ∷ (2, (39, 1)) ∷ (3, (39, 44)) ∷ [])
+    ∷ row (send 0x0802 ∷ send 0x2D01 ∷ send 0x290F ∷ send 0x280F ∷ replicate 15 spin) ((Relay, 1) ∷ (Stepping, 1) ∷ (Limit, 15) ∷ (Level, 15) ∷ (LongCounter, 15) ∷ (ReducedCounter, 14) ∷ []) ((2, (37, 0xF0)) ∷ (3, (37, 0xF0)) ∷ [])
     ∷ []
 
 -- at the start: all 0, but these three
