@@ -1,19 +1,20 @@
 -- Of two whole frames that differ in unread bits alone the desk makes the same: each reading is, and what is half read.
 -- Assumes nothing.
 use mathlib.Core.Path.{_≡_, refl, sym, ap, _∙_}
-use mathlib.Core.Bool.{Bool, true, false}
+use mathlib.Core.Bool.{Bool, true, false, _||_}
 use mathlib.Core.List.{List}
-use Prim.Native.Nat.{ℕ, _≤_, _<_}
-use native.Mathlib.Decide.{ℕ-discrete}
+use Prim.Native.Nat.{ℕ, _<_}
 use native.Mathlib.Omega.{arith}
 use lib.Dec.{eqb, ltb}
-use borrow.Author.Tests.{eqb-true, ltb-true, ltb-false, lt-ltb}
+use borrow.Author.Tests.{eqb-true, ltb-true, lt-ltb}
 use Rattle.base.specs.Pick.{pick}
 use Rattle.base.specs.Counts.{frames}
 use Rattle.base.proofs.Cases.{split}
-use Rattle.frame.specs.Read.{indexOf, periodOf, phaseOf, bornOf}
+use Rattle.frame.specs.Items.{items}
+use Rattle.frame.specs.Read.{indexOf, phaseOf, bornOf, isPlain}
 use Rattle.frame.specs.Laws.{spreads, byte39, Alike}
 use Rattle.frame.proofs.Tells.{pick-same}
+use Rattle.frame.proofs.Rows.{spread-rows}
 use Rattle.frame.proofs.Unread.{index-same, read-same, spread-same}
 use Rattle.desk.specs.declared.Half.{Half}
 use Rattle.desk.specs.declared.Half.the-variants.{Nothing}
@@ -21,13 +22,13 @@ use Rattle.desk.specs.declared.Shown.the-variants.{Unknown}
 use Rattle.desk.specs.declared.Desk.{Desk}
 use Rattle.desk.specs.Desk.{bornAt, grownOf, keptAt, plainOf, partly, readingOf, halfAfter, heardOf}
 use Rattle.desk.proofs.Cells.{cells-same}
-use Rattle.desk.proofs.Readings.{plain-is, spread-is}
+use Rattle.desk.proofs.Readings.{plain-is, spread-is, once}
 
 -- a frame after which a number is half read is one of that number's
 partly-spreads : (i : ℕ) → partly i ≡ true → spreads i ≡ true
 partly-spreads i e =
     split (ltb i 3) (λ t. let h : i < 3 = ltb-true _ _ t in rw (lt-ltb i 4 (omega arith)))
-    (λ t. ap spreads (eqb-true i 27 (sym (ap (λ (b : Bool). pick b true (eqb i 27)) t) ∙ e)))
+    (λ t. ap spreads (eqb-true i 27 (sym (ap (λ (b : Bool). b || eqb i 27) t) ∙ e)))
 
 module _ (f g : List ℕ) (a : Alike f g) (half : Half) where
   -- a choice that looks at byte 39 only where it is a spread number's
@@ -37,21 +38,17 @@ module _ (f g : List ℕ) (a : Alike f g) (half : Half) where
       pick-same (t (indexOf f)) (λ e. ap (x (indexOf f)) (spread-same f g a (h (indexOf f) e))) (λ e. refl)
       ∙ ap (λ (i : ℕ). pick (t i) (x i (byte39 g)) y) (index-same f g a)
 
-  spread-row : (k j : ℕ) → k ≡ j → periodOf j ≡ 32 → ltb j 25 ≡ false → spreads (phaseOf j) ≡ true → readingOf half f k ≡ readingOf half g k
-  spread-row k j q p l s =
-      sym (spread-is half f (indexOf f) (byte39 f) k j refl refl q p l)
-      ∙ by-spread (λ (i : ℕ). eqb i (phaseOf j)) (λ (i b : ℕ). bornAt (frames (bornOf j)) (grownOf half i b)) Unknown (λ i e. ap spreads (eqb-true i (phaseOf j) e) ∙ s)
-      ∙ spread-is half g (indexOf g) (byte39 g) k j refl refl q p l
+  spread-row : (k : ℕ) → k < items → isPlain k ≡ false → readingOf half f k ≡ readingOf half g k
+  spread-row k h n =
+      sym (spread-is half f (indexOf f) (byte39 f) k refl refl (once k h n) n)
+      ∙ by-spread (λ (i : ℕ). eqb i (phaseOf k)) (λ (i b : ℕ). bornAt (frames (bornOf k)) (grownOf half i b)) Unknown
+      (λ i e. ap spreads (eqb-true i (phaseOf k) e) ∙ spread-rows (λ k. spreads (phaseOf k) ≡ true) refl refl k h n)
+      ∙ spread-is half g (indexOf g) (byte39 g) k refl refl (once k h n) n
 
-  reading-same : (k : ℕ) → k < 27 → readingOf half f k ≡ readingOf half g k
+  reading-same : (k : ℕ) → k < items → readingOf half f k ≡ readingOf half g k
   reading-same k h =
-      split (ltb k 25)
-      (λ t.
-      let l : k < 25 = ltb-true _ _ t in
-      sym (plain-is half f k (a .first .forty) l) ∙ ap plainOf (read-same f g a k) ∙ plain-is half g k (a .second .forty) l)
-      (λ t.
-      let l : 25 ≤ k = ltb-false _ _ t in
-      elim (ℕ-discrete k 25) [ yes q ↦ spread-row k 25 q refl refl refl | no q ↦ spread-row k 26 (omega arith) refl refl refl ])
+      split (isPlain k)
+      (λ t. sym (plain-is half f k (a .first .forty) t) ∙ ap plainOf (read-same f g a k) ∙ plain-is half g k (a .second .forty) t) (spread-row k h)
 
   half-same : halfAfter half f ≡ halfAfter half g
   unfolding halfAfter

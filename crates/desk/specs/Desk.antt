@@ -1,6 +1,6 @@
 -- What the desk does at a slot, and what it then shows (01, "The 40-byte frame", the paragraph "The desk takes slots").
 -- The rows of the items, what a frame carries and what arrived are those of `frame`. Assumes nothing.
-use mathlib.Core.Bool.{Bool, true}
+use mathlib.Core.Bool.{Bool, _||_}
 use mathlib.Core.List.{List, [], _∷_}
 use Prim.Native.Nat.{ℕ, zero, suc, _+_, _*_, _%_}
 use lib.Dec.{eqb, ltb}
@@ -12,12 +12,15 @@ use Rattle.frame.specs.declared.Arrived.{Arrived}
 use Rattle.frame.specs.declared.Arrived.the-variants as arrived
 use Rattle.frame.specs.declared.Reading.{Reading}
 use Rattle.frame.specs.declared.Reading.the-variants as reading
-use Rattle.frame.specs.Read.{indexOf, fieldOf, carries, bornOf, arrivedOf}
+use Rattle.frame.specs.Read.{indexOf, fieldOf, carries, phaseOf, bornOf, isPlain, readOf, arrivedOf}
+use Rattle.frame.specs.Items.{items}
 use Rattle.desk.specs.declared.Shown.{Shown}
 use Rattle.desk.specs.declared.Shown.the-variants.{Unknown, Known}
 use Rattle.desk.specs.declared.Cell.{Cell}
 use Rattle.desk.specs.declared.Half.{Half}
 use Rattle.desk.specs.declared.Half.the-variants.{Nothing, Part}
+use Rattle.desk.specs.declared.SoFar.{SoFar}
+use Rattle.desk.specs.declared.SoFar.the-variants.{None, Bytes}
 use Rattle.desk.specs.declared.Desk.{Desk}
 use Rattle.desk.specs.declared.Answer.the-variants.{Heard, Missed, Refused}
 use Rattle.desk.specs.declared.Received.{Received}
@@ -33,18 +36,21 @@ latestOf (Known v a) old = Known v a
 latestOf Unknown old = agedOf old
 
 -- the bytes so far (their low 24 bits, so that four never pass 32) with byte b of the frame of index i; "an index that isn't the next one discards a half-read spread number"
-abbrev pub joined : Half → ℕ → ℕ → Shown
-joined Nothing i b = Unknown
-joined (Part n acc) i b = pick (eqb n i) (Known (acc % 0x1000000 * 256 + b) (frames 0)) Unknown
+abbrev pub joined : Half → ℕ → ℕ → SoFar
+joined Nothing i b = None
+joined (Part n acc) i b = pick (eqb n i) (Bytes (acc % 0x1000000 * 256 + b)) None
 
 -- "a spread number begins only at its first frame": 0 for the long EDB counter, 27 for the free time
-abbrev pub grownOf : Half → ℕ → ℕ → Shown
-grownOf half i b = pick (eqb i 0) (Known b (frames 0)) (pick (eqb i 27) (Known b (frames 0)) (joined half i b))
+abbrev pub begins : ℕ → Bool
+begins i = eqb i 0 || eqb i 27
 
--- the same value at age a
-abbrev pub bornAt : Frames → Shown → Shown
-bornAt a Unknown = Unknown
-bornAt a (Known v b) = Known v a
+abbrev pub grownOf : Half → ℕ → ℕ → SoFar
+grownOf half i b = pick (begins i) (Bytes b) (joined half i b)
+
+-- a number that is complete, at age a
+abbrev pub bornAt : Frames → SoFar → Shown
+bornAt a None = Unknown
+bornAt a (Bytes v) = Known v a
 
 -- a plain item is as old as its frame
 abbrev pub plainOf : Reading → Shown
@@ -60,16 +66,20 @@ spreadOf half i b last a = pick (eqb i last) (bornAt a (grownOf half i b)) Unkno
 unfoldable pub readingOf : Half → List ℕ → ℕ → Shown
 readingOf half f k =
     pick (carries k (indexOf f))
-    (pick (ltb k 25) (Known (fieldOf f k) (frames 0)) (bornAt (frames (bornOf k)) (grownOf half (indexOf f) (getD f 39 0))))
+    (pick (isPlain k) (Known (fieldOf f k) (frames 0)) (bornAt (frames (bornOf k)) (grownOf half (indexOf f) (getD f 39 0))))
     Unknown
 
-abbrev pub keptAt : ℕ → Shown → Half
-keptAt i Unknown = Nothing
-keptAt i (Known v a) = Part (i + 1) v
+-- the same, of bytes that came with index i and byte 39 b: a frame's own, or with no bytes at all those of a miss
+abbrev pub toldBy : Half → List ℕ → ℕ → ℕ → ℕ → Shown
+toldBy half f i b k = pick (isPlain k) (plainOf (readOf f k)) (spreadOf half i b (phaseOf k) (frames (bornOf k)))
+
+abbrev pub keptAt : ℕ → SoFar → Half
+keptAt i None = Nothing
+keptAt i (Bytes v) = Part (i + 1) v
 
 -- frames after which a spread number is half read: 0, 1, 2 and 27
 abbrev pub partly : ℕ → Bool
-partly i = pick (ltb i 3) true (eqb i 27)
+partly i = ltb i 3 || eqb i 27
 
 -- what is half read after a whole frame, of index i with byte 39 b
 abbrev pub halfAt : Half → ℕ → ℕ → Half
@@ -100,13 +110,13 @@ abbrev pub cellsFrom : (ℕ → Cell) → ℕ → ℕ → List Cell
 cellsFrom g k zero = []
 cellsFrom g k (suc n) = g k ∷ cellsFrom g (suc k) n
 
--- the 27 cells after a slot that by itself shows f k of the item in row k
+-- the cells after a slot that by itself shows f k of the item in row k
 unfoldable pub cellsAfter : (ℕ → Shown) → List Cell → List Cell
-cellsAfter f cs = cellsFrom (λ k. cellAfter (f k) (getD cs k blank)) 0 27
+cellsAfter f cs = cellsFrom (λ k. cellAfter (f k) (getD cs k blank)) 0 items
 
 -- a fresh desk
 abbrev pub freshDesk : Desk
-freshDesk = record { cells = replicate 27 blank; half = Nothing }
+freshDesk = record { cells = replicate items blank; half = Nothing }
 
 -- what a desk shows of the item in row k
 abbrev pub shows : Desk → ℕ → Shown

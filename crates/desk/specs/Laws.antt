@@ -6,7 +6,7 @@ use Prim.Native.Nat.{ℕ, _<_}
 use lib.ListN.{length, getD, replicate}
 use Rattle.frame.specs.declared.Held.{Held}
 use Rattle.frame.specs.declared.Arrived.the-variants.{Whole}
-use Rattle.frame.specs.Items.{numbered}
+use Rattle.frame.specs.Items.{items, numbered}
 use Rattle.frame.specs.Write.{frameOf}
 use Rattle.frame.specs.Read.{arrivedOf}
 use Rattle.frame.specs.Laws.{Alike}
@@ -32,8 +32,8 @@ pub record Laws : Type 0 where
   -- of two whole frames that differ in unread bits alone the desk makes the same
   pub unread : (d : Desk) (f g : List ℕ) (i b j c : ℕ) → Alike f g → arrivedOf f ≡ Whole i b → arrivedOf g ≡ Whole j c → slotOf d f ≡ slotOf d g
   -- item by item: a miss makes it one slot older; a whole frame shows what it brings, else the same
-  pub at-miss : (d : Desk) (k : ℕ) → k < 27 → shows (missedOf d) k ≡ agedOf (shows d k)
-  pub at-frame : (d : Desk) (f : List ℕ) (k : ℕ) → k < 27 → shows (heardOf d f) k ≡ latestOf (readingOf (d .half) f k) (shows d k)
+  pub at-miss : (d : Desk) (k : ℕ) → k < items → shows (missedOf d) k ≡ agedOf (shows d k)
+  pub at-frame : (d : Desk) (f : List ℕ) (k : ℕ) → k < items → shows (heardOf d f) k ≡ latestOf (readingOf (d .half) f k) (shows d k)
   -- a cell after a slot is the one that holds what it shows: an unknown item is held in one way
-  pub held-miss : (d : Desk) (k : ℕ) → k < 27 → getD (missedOf d .cells) k blank ≡ cellOf (shows (missedOf d) k)
-  pub held-frame : (d : Desk) (f : List ℕ) (k : ℕ) → k < 27 → getD (heardOf d f .cells) k blank ≡ cellOf (shows (heardOf d f) k)
+  pub held-miss : (d : Desk) (k : ℕ) → k < items → getD (missedOf d .cells) k blank ≡ cellOf (shows (missedOf d) k)
+  pub held-frame : (d : Desk) (f : List ℕ) (k : ℕ) → k < items → getD (heardOf d f .cells) k blank ≡ cellOf (shows (heardOf d f) k)

@@ -1,14 +1,14 @@
-// The desk: slots in, 27 items out, each unknown or a value with its age.
+// The desk: slots in, items out, each unknown or a value with its age.
 // Keeps 01 "The 40-byte frame", its paragraph on the desk; a frame not of 40 bytes is 17, and no slot passes.
 ghost use mathlib.Core.Path.{_≡_};
 ghost use Prim.Native.Nat.{_<_};
 ghost use lib.ListN.{length, getD};
 ghost use Rattle.frame.specs.Items.{rowOf};
 ghost use Rattle.frame.specs.Read.{indexOf, readOf};
-ghost use Rattle.desk.specs.declared.Shown.the-variants.{Unknown};
-ghost use Rattle.desk.specs.Desk.{blank, agedOf, latestOf, grownOf, bornAt, plainOf, spreadOf, readingOf, keptAt, halfAt, shownBy, cellOf, cellAfter, cellsAfter, nothing, freshDesk, shows, missedOf, heardOf, slotOf};
+ghost use Rattle.desk.specs.Desk.{blank, agedOf, latestOf, begins, grownOf, bornAt, plainOf, spreadOf, toldBy, keptAt, partly, halfAt, shownBy, cellOf, cellAfter, cellsAfter, freshDesk, shows, missedOf, heardOf, slotOf};
 use base::Frames;
 use frame::Arrived;
+use frame::ITEMS;
 use frame::Item;
 use frame::Reading;
 use frame::Refusal;
@@ -31,8 +31,14 @@ pub enum Half {
     Part(u8, u32),
 }
 
+// The number that the bytes so far make, the last frame's included.
+enum SoFar {
+    None,
+    Bytes(u32),
+}
+
 pub struct Desk {
-    cells: [Cell; 27],
+    cells: [Cell; ITEMS],
     half: Half,
 }
 
@@ -52,7 +58,7 @@ pub fn fresh() -> Desk
     ensures { λ r. ⌜ r ≡ freshDesk ⌝ }
 {
     let blank = cell_of(Shown::Unknown);
-    let cells = [blank; 27];
+    let cells = [blank; ITEMS];
     Desk {
         cells: cells,
         half: Half::Nothing,
@@ -69,10 +75,10 @@ pub fn look(desk: Desk, item: Item) -> Shown
 }
 
 // The cell in row k.
-fn cell_at(cells: [Cell; 27], k: usize) -> Cell
+fn cell_at(cells: [Cell; ITEMS], k: usize) -> Cell
     ensures { λ r. ⌜ r ≡ getD cells k blank ⌝ }
 {
-    if k < 27 {
+    if k < ITEMS {
         return cells[k];
     }
     cell_of(Shown::Unknown)
@@ -122,53 +128,58 @@ fn latest(new: Shown, old: Shown) -> Shown
     }
 }
 
-fn wide(x: u8) -> u32
-    ensures { λ r. ⌜ (r ≡ x) × (r < 256) ⌝ }
+// Whether a spread number begins at the frame of index i.
+fn is_first(i: u8) -> bool
+    ensures { λ r. ⌜ r ≡ begins i ⌝ }
 {
-    x as u32
+    i == 0 || i == 27
 }
 
 // The bytes so far of the spread number, with the byte b of the frame of index i: it begins only at its first frame.
-fn grown(half: Half, i: u8, b: u8) -> Shown
+fn grown(half: Half, i: u8, b: u8) -> SoFar
     ensures { λ r. ⌜ r ≡ grownOf half i b ⌝ }
 {
-    if i == 0 {
-        return Shown::Known(wide(b), Frames(0));
-    }
-    if i == 27 {
-        return Shown::Known(wide(b), Frames(0));
+    if is_first(i) {
+        return SoFar::Bytes(base::wide(b));
     }
     match half {
-        Half::Nothing => Shown::Unknown,
+        Half::Nothing => SoFar::None,
         Half::Part(n, acc) => {
             if n == i {
-                Shown::Known(acc % 0x1000000 * 256 + wide(b), Frames(0))
+                SoFar::Bytes(acc % 0x1000000 * 256 + base::wide(b))
             } else {
-                Shown::Unknown
+                SoFar::None
             }
         }
     }
 }
 
-// The same value at age a.
-fn born(s: Shown, a: Frames) -> Shown
+// A complete number at age a.
+fn born(s: SoFar, a: Frames) -> Shown
     ensures { λ r. ⌜ r ≡ bornAt a s ⌝ }
 {
     match s {
-        Shown::Unknown => Shown::Unknown,
-        Shown::Known(v, _) => Shown::Known(v, a),
+        SoFar::None => Shown::Unknown,
+        SoFar::Bytes(v) => Shown::Known(v, a),
     }
 }
 
 // What is half read once the frame of index i has brought s.
-fn kept(s: Shown, i: u8) -> Half
+fn kept(s: SoFar, i: u8) -> Half
     requires { ⌜ i < 32 ⌝ }
     ensures { λ r. ⌜ r ≡ keptAt i s ⌝ }
 {
     match s {
-        Shown::Unknown => Half::Nothing,
-        Shown::Known(v, _) => Half::Part(i + 1, v),
+        SoFar::None => Half::Nothing,
+        SoFar::Bytes(v) => Half::Part(i + 1, v),
     }
+}
+
+// Whether a spread number is half read after the frame of index i.
+fn is_partly(i: u8) -> bool
+    ensures { λ r. ⌜ r ≡ partly i ⌝ }
+{
+    i < 3 || i == 27
 }
 
 // What is half read after a whole frame of index i with byte 39 b.
@@ -176,10 +187,7 @@ fn half_after(half: Half, i: u8, b: u8) -> Half
     requires { ⌜ i < 32 ⌝ }
     ensures { λ r. ⌜ r ≡ halfAt half i b ⌝ }
 {
-    if i < 3 {
-        return kept(grown(half, i, b), i);
-    }
-    if i == 27 {
+    if is_partly(i) {
         return kept(grown(half, i, b), i);
     }
     Half::Nothing
@@ -211,109 +219,78 @@ fn next(new: Shown, old: Cell) -> Cell
     cell_of(latest(new, shown_by(old)))
 }
 
-// Row k after a slot that shows nothing of its item.
-fn older(old: [Cell; 27], k: usize) -> Cell
-    ensures { λ r. ⌜ r ≡ cellAfter Unknown (getD old k blank) ⌝ }
+// A plain item's cell after bytes that came.
+fn plain_cell(old: [Cell; ITEMS], item: Item, frame: &[u8]) -> Cell
+    ensures { λ r. ⌜ r ≡ cellAfter (plainOf (readOf (now (frame .entry)) (rowOf item))) (getD old (rowOf item) blank) ⌝ }
 {
-    next(Shown::Unknown, cell_at(old, k))
+    next(
+        plain(frame::read(frame, item)),
+        cell_at(old, frame::row_of(item)),
+    )
 }
 
-// Row k of a plain item after a whole frame.
-fn plain_cell(old: [Cell; 27], k: usize, frame: &[u8]) -> Cell
-    ensures { λ r. ⌜ r ≡ cellAfter (plainOf (readOf (now (frame .entry)) k)) (getD old k blank) ⌝ }
+// A spread number's cell after bytes that came with index i and byte 39 b.
+fn spread_cell(
+    old: [Cell; ITEMS],
+    item: Item,
+    half: Half,
+    i: u8,
+    b: u8,
+    last: u8,
+    age: Frames,
+) -> Cell
+    ensures { λ r. ⌜ r ≡ cellAfter (spreadOf half i b last age) (getD old (rowOf item) blank) ⌝ }
 {
-    next(plain(frame::read(frame, k)), cell_at(old, k))
+    next(
+        spread(half, i, b, last, age),
+        cell_at(old, frame::row_of(item)),
+    )
 }
 
-// Row k of a spread number after a whole frame.
-fn spread_cell(old: [Cell; 27], k: usize, half: Half, i: u8, b: u8, last: u8, age: Frames) -> Cell
-    ensures { λ r. ⌜ r ≡ cellAfter (spreadOf half i b last age) (getD old k blank) ⌝ }
-{
-    next(spread(half, i, b, last, age), cell_at(old, k))
-}
-
-// The cells after a whole frame, row by row: each is written once, and no table is built.
-fn heard_cells(old: [Cell; 27], frame: &[u8], half: Half, i: u8, b: u8) -> [Cell; 27]
-    requires { ⌜ (length (now frame) ≡ 40) × (i ≡ indexOf (now frame)) × (b ≡ getD (now frame) 39 0) ⌝ }
-    ensures { λ r. ⌜ r ≡ cellsAfter (readingOf half (now (frame .entry))) old ⌝ }
+// The cells after bytes that came, row by row: each is written once, and no table is built.
+fn cells_after(old: [Cell; ITEMS], frame: &[u8], half: Half, i: u8, b: u8) -> [Cell; ITEMS]
+    ensures { λ r. ⌜ r ≡ cellsAfter (toldBy half (now (frame .entry)) i b) old ⌝ }
 {
     [
-        plain_cell(old, 0, frame),
-        plain_cell(old, 1, frame),
-        plain_cell(old, 2, frame),
-        plain_cell(old, 3, frame),
-        plain_cell(old, 4, frame),
-        plain_cell(old, 5, frame),
-        plain_cell(old, 6, frame),
-        plain_cell(old, 7, frame),
-        plain_cell(old, 8, frame),
-        plain_cell(old, 9, frame),
-        plain_cell(old, 10, frame),
-        plain_cell(old, 11, frame),
-        plain_cell(old, 12, frame),
-        plain_cell(old, 13, frame),
-        plain_cell(old, 14, frame),
-        plain_cell(old, 15, frame),
-        plain_cell(old, 16, frame),
-        plain_cell(old, 17, frame),
-        plain_cell(old, 18, frame),
-        plain_cell(old, 19, frame),
-        plain_cell(old, 20, frame),
-        plain_cell(old, 21, frame),
-        plain_cell(old, 22, frame),
-        plain_cell(old, 23, frame),
-        plain_cell(old, 24, frame),
-        spread_cell(old, 25, half, i, b, 3, Frames(3)),
-        spread_cell(old, 26, half, i, b, 28, Frames(1)),
+        plain_cell(old, Item::Parallel, frame),
+        plain_cell(old, Item::Multiplexer1, frame),
+        plain_cell(old, Item::Multiplexer2, frame),
+        plain_cell(old, Item::Multiplexer3, frame),
+        plain_cell(old, Item::ErrorCode, frame),
+        plain_cell(old, Item::DirectionStop, frame),
+        plain_cell(old, Item::DirectionStart, frame),
+        plain_cell(old, Item::EnergyStop, frame),
+        plain_cell(old, Item::EnergyStart, frame),
+        plain_cell(old, Item::LastInvalidCode, frame),
+        plain_cell(old, Item::IelEnable, frame),
+        plain_cell(old, Item::ReducedCounter, frame),
+        plain_cell(old, Item::Bias, frame),
+        plain_cell(old, Item::Relay, frame),
+        plain_cell(old, Item::Ground, frame),
+        plain_cell(old, Item::StopStepping, frame),
+        plain_cell(old, Item::StopLimit, frame),
+        plain_cell(old, Item::StopLevel, frame),
+        plain_cell(old, Item::Flap1, frame),
+        plain_cell(old, Item::Flap2, frame),
+        plain_cell(old, Item::Flap3, frame),
+        plain_cell(old, Item::IelClock, frame),
+        plain_cell(old, Item::LastCheck, frame),
+        plain_cell(old, Item::InvalidCount, frame),
+        plain_cell(old, Item::HeadMask, frame),
+        spread_cell(old, Item::LongCounter, half, i, b, 3, Frames(3)),
+        spread_cell(old, Item::FreeTime, half, i, b, 28, Frames(1)),
     ]
 }
 
-// The cells after a miss.
-fn missed_cells(old: [Cell; 27]) -> [Cell; 27]
-    ensures { λ r. ⌜ r ≡ cellsAfter nothing old ⌝ }
-{
-    [
-        older(old, 0),
-        older(old, 1),
-        older(old, 2),
-        older(old, 3),
-        older(old, 4),
-        older(old, 5),
-        older(old, 6),
-        older(old, 7),
-        older(old, 8),
-        older(old, 9),
-        older(old, 10),
-        older(old, 11),
-        older(old, 12),
-        older(old, 13),
-        older(old, 14),
-        older(old, 15),
-        older(old, 16),
-        older(old, 17),
-        older(old, 18),
-        older(old, 19),
-        older(old, 20),
-        older(old, 21),
-        older(old, 22),
-        older(old, 23),
-        older(old, 24),
-        older(old, 25),
-        older(old, 26),
-    ]
-}
-
-// A slot marked missed.
+// A slot marked missed: no bytes came, and no index.
 pub fn missed(desk: Desk) -> Desk
     ensures { λ r. ⌜ r ≡ missedOf desk ⌝ }
 {
     let half = Half::Nothing;
     let old = desk.cells;
-    let cells = missed_cells(old);
-    Desk {
-        cells: cells,
-        half: half,
-    }
+    let bytes = [0u8; 1];
+    let cells = cells_after(old, &bytes[..0], half, 32, 0);
+    Desk { cells, half }
 }
 
 // A whole frame, of index i with byte 39 b.
@@ -323,12 +300,9 @@ fn heard(desk: Desk, frame: &[u8], i: u8, b: u8) -> Desk
 {
     let old = desk.cells;
     let half = desk.half;
-    let cells = heard_cells(old, frame, half, i, b);
+    let cells = cells_after(old, frame, half, i, b);
     let next = half_after(half, i, b);
-    Desk {
-        cells: cells,
-        half: next,
-    }
+    Desk { cells, half: next }
 }
 
 // The bytes of a slot: a whole frame is heard, fill is a miss; where they are not 40, no slot passes.

@@ -2,33 +2,32 @@
 -- Assumes nothing.
 use mathlib.Core.Path.{_≡_, refl, ap, _∙_}
 use mathlib.Core.Bool.{true, false}
-use Prim.Native.Nat.{ℕ, _%_, _<_}
+use Prim.Native.Nat.{ℕ, _%_}
 use native.Mathlib.Nat.{mod-eq-of-lt}
-use native.Mathlib.Omega.{arith}
 use lib.Dec.{eqb}
-use borrow.Author.Tests.{eqb-true, lt-ltb}
+use borrow.Author.Tests.{eqb-true}
 use Rattle.frame.specs.declared.Held.{Held}
 use Rattle.frame.specs.declared.Reading.the-variants.{Nothing, Value}
 use Rattle.frame.specs.Items.{heldAt}
 use Rattle.frame.specs.Write.{frameOf}
-use Rattle.frame.specs.Read.{remOf, phaseOf, carries, indexOf, readOf}
+use Rattle.frame.specs.Read.{remOf, phaseOf, isPlain, carries, indexOf, readOf}
 use Rattle.frame.specs.Laws.{Fits, Laws}
-use Rattle.frame.proofs.Rows.{rounds}
+use Rattle.frame.proofs.Rows.{rounds, plain-lt}
 use Rattle.frame.proofs.Came.{no-other}
 use Rattle.frame.proofs.Back.{field-back}
 use Rattle.frame.proofs.Tells.{hides, long-is, free-is, unlatched, stays, whole, no-fill}
 use Rattle.frame.proofs.Zeros.{zeros, masked}
 use Rattle.frame.proofs.Unread.{index-same, read-same, spread-same}
 
-module _ (h : Held) (i l k : ℕ) (b : k < 25) where
+module _ (h : Held) (i l k : ℕ) (b : isPlain k ≡ true) where
   carried : carries k (indexOf (frameOf h i l)) ≡ carries k i
   unfolding frameOf
   carried =
-      ap (λ (n : ℕ). eqb n (phaseOf k)) (rounds k (omega arith) (i % 32) ∙ rounds k (omega arith) i)
+      ap (λ (n : ℕ). eqb n (phaseOf k)) (rounds k (plain-lt k b) (i % 32) ∙ rounds k (plain-lt k b) i)
 
   back : carries k i ≡ true → readOf (frameOf h i l) k ≡ Value (heldAt h k % remOf k)
   unfolding readOf
-  back e = unfold frameOf in rw (lt-ltb _ _ b, carried ∙ e) (ap Value (field-back h i l k b (eqb-true _ _ e)))
+  back e = unfold frameOf in rw (b, carried ∙ e) (ap Value (field-back h i l k b (eqb-true _ _ e)))
 
   exact : Fits h → carries k i ≡ true → readOf (frameOf h i l) k ≡ Value (heldAt h k)
   exact f e = back e ∙ value (mod-eq-of-lt (f .plain k b))
@@ -38,7 +37,7 @@ module _ (h : Held) (i l k : ℕ) (b : k < 25) where
 
   silent : carries k i ≡ false → readOf (frameOf h i l) k ≡ Nothing
   unfolding readOf
-  silent e = unfold frameOf in rw (lt-ltb _ _ b, carried ∙ e)
+  silent e = unfold frameOf in rw (b, carried ∙ e)
 
 pub laws : Laws
 laws =

@@ -1,35 +1,70 @@
 -- What the table of rows keeps in every row: computed over the table, used at each row.
 -- Assumes nothing.
-use mathlib.Core.Path.{_≡_}
+use mathlib.Core.Path.{_≡_, refl, sym, ap, subst, _∙_}
+use mathlib.Core.Bool.{Bool, true, false, true≢false}
 use Prim.Native.Nat.{ℕ, _%_, _<_}
 use native.Mathlib.Nat.{dvd-of-mod-eq-zero, mod-mod-of-dvd}
 use lib.Dec.{T, eqb, ltb, eqb→eq, ltb→lt}
-use Rattle.base.proofs.Table.{below}
+use borrow.Author.Tests.{eqb-true, ltb-true, lt-ltb}
+use Rattle.base.specs.Pick.{pick}
+use Rattle.base.proofs.Cases.{split}
+use Rattle.base.proofs.Table.{below, is-true}
+use Rattle.frame.proofs.Each.{From, each}
 use Rattle.frame.specs.declared.Item.{Item}
-use Rattle.frame.specs.declared.Item.the-variants.{Parallel, Multiplexer1, Multiplexer2, Multiplexer3, ErrorCode, DirectionStop, DirectionStart, EnergyStop, EnergyStart, LastInvalidCode, IelEnable, ReducedCounter, Bias, Relay, Ground, Stepping, Limit, Level, Flap1, Flap2, Flap3, IelClock, LastCheck, InvalidCount, HeadMask, LongCounter, FreeTime}
-use Rattle.frame.specs.Items.{rowOf}
-use Rattle.frame.specs.Read.{byteOf, divOf, remOf, periodOf}
+use Rattle.frame.specs.declared.Item.the-variants.{Parallel, Multiplexer1, Multiplexer2, Multiplexer3, ErrorCode, DirectionStop, DirectionStart, EnergyStop, EnergyStart, LastInvalidCode, IelEnable, ReducedCounter, Bias, Relay, Ground, StopStepping, StopLimit, StopLevel, Flap1, Flap2, Flap3, IelClock, LastCheck, InvalidCount, HeadMask, LongCounter, FreeTime}
+use Rattle.frame.specs.Items.{items, rowOf}
+use Rattle.frame.specs.Read.{byteOf, divOf, remOf, periodOf, bornOf, isPlain}
 
-module _ (k : ℕ) (h : k < 27) where
+module _ (k : ℕ) (h : k < items) where
   pub byte-lt : byteOf k < 39
-  byte-lt = ltb→lt _ _ (below (λ (j : ℕ). ltb (byteOf j) 39) 27 tt k h)
+  byte-lt = ltb→lt _ _ (below (λ (j : ℕ). ltb (byteOf j) 39) items tt k h)
 
   pub div-pos : 0 < divOf k
-  div-pos = ltb→lt _ _ (below (λ (j : ℕ). ltb 0 (divOf j)) 27 tt k h)
+  div-pos = ltb→lt _ _ (below (λ (j : ℕ). ltb 0 (divOf j)) items tt k h)
 
   pub rem-pos : 0 < remOf k
-  rem-pos = ltb→lt _ _ (below (λ (j : ℕ). ltb 0 (remOf j)) 27 tt k h)
+  rem-pos = ltb→lt _ _ (below (λ (j : ℕ). ltb 0 (remOf j)) items tt k h)
 
   pub period-pos : 0 < periodOf k
-  period-pos = ltb→lt _ _ (below (λ (j : ℕ). ltb 0 (periodOf j)) 27 tt k h)
+  period-pos = ltb→lt _ _ (below (λ (j : ℕ). ltb 0 (periodOf j)) items tt k h)
 
   -- the 32 indices are whole rounds of each period
   pub rounds : (i : ℕ) → i % 32 % periodOf k ≡ i % periodOf k
   rounds i =
-      mod-mod-of-dvd (periodOf k) i (dvd-of-mod-eq-zero _ (eqb→eq _ _ (below (λ (j : ℕ). eqb (32 % periodOf j) 0) 27 tt k h)))
+      mod-mod-of-dvd (periodOf k) i (dvd-of-mod-eq-zero _ (eqb→eq _ _ (below (λ (j : ℕ). eqb (32 % periodOf j) 0) items tt k h)))
+
+-- a plain item has a row, and its one frame is 0 slots old
+pub plain-lt : (k : ℕ) → isPlain k ≡ true → k < items
+unfolding isPlain
+plain-lt k p =
+    split (ltb k items) (ltb-true k items) (λ f. absurd (true≢false (sym p ∙ ap (λ (b : Bool). pick b (eqb (bornOf k) 0) false) f)))
+
+pub plain-born : (k : ℕ) → isPlain k ≡ true → bornOf k ≡ 0
+unfolding isPlain
+plain-born k p = eqb-true _ _ (sym (ap (λ (b : Bool). pick b (eqb (bornOf k) 0) false) (lt-ltb _ _ (plain-lt k p))) ∙ p)
+
+-- P at every plain row, from a proof for each row, one by one; a spread number's is `spread`
+pub each-plain : (P : ℕ → Type 0) → From (λ k. isPlain k ≡ true → P k) 0 items → (k : ℕ) → isPlain k ≡ true → P k
+each-plain P a k p = each (λ k. isPlain k ≡ true → P k) items a k (plain-lt k p) p
+
+pub spread : {A : Type 0} → false ≡ true → A
+spread e = absurd (true≢false (sym e))
+
+-- P at every row that is not plain: those of the two spread numbers
+abbrev either : ℕ → Bool
+either j = pick (isPlain j) true (pick (eqb j (rowOf LongCounter)) true (eqb j (rowOf FreeTime)))
+
+each-row : (k : ℕ) → k < items → either k ≡ true
+unfolding isPlain
+each-row k h = is-true (either k) (below (λ (j : ℕ). either j) items tt k h)
+
+pub spread-rows : (P : ℕ → Type 0) → P (rowOf LongCounter) → P (rowOf FreeTime) → (k : ℕ) → k < items → isPlain k ≡ false → P k
+spread-rows P long free k h n =
+    split (eqb k (rowOf LongCounter)) (λ p. subst P (sym (eqb-true _ _ p)) long)
+    (λ p. split (eqb k (rowOf FreeTime)) (λ q. subst P (sym (eqb-true _ _ q)) free) (λ q. absurd (true≢false (sym (each-row k h) ∙ rw (n, p, q)))))
 
 -- every item has a row
-row-test : (x : Item) → T (ltb (rowOf x) 27)
+row-test : (x : Item) → T (ltb (rowOf x) items)
 row-test Parallel = tt
 row-test Multiplexer1 = tt
 row-test Multiplexer2 = tt
@@ -45,9 +80,9 @@ row-test ReducedCounter = tt
 row-test Bias = tt
 row-test Relay = tt
 row-test Ground = tt
-row-test Stepping = tt
-row-test Limit = tt
-row-test Level = tt
+row-test StopStepping = tt
+row-test StopLimit = tt
+row-test StopLevel = tt
 row-test Flap1 = tt
 row-test Flap2 = tt
 row-test Flap3 = tt
@@ -58,5 +93,5 @@ row-test HeadMask = tt
 row-test LongCounter = tt
 row-test FreeTime = tt
 
-pub row-lt : (x : Item) → rowOf x < 27
+pub row-lt : (x : Item) → rowOf x < items
 row-lt x = ltb→lt _ _ (row-test x)

@@ -12,9 +12,10 @@ use borrow.Author.Tests.{ne-eqb, eqb-true, eqb-false}
 use Rattle.base.specs.Pick.{pick}
 use Rattle.frame.specs.declared.Held.{Held}
 use Rattle.frame.specs.declared.Arrived.the-variants.{Whole}
-use Rattle.frame.specs.Items.{heldAt}
+use Rattle.frame.specs.declared.Item.the-variants.{Parallel, Multiplexer1, Multiplexer2, Multiplexer3, ErrorCode, DirectionStop, DirectionStart, EnergyStop, EnergyStart, LastInvalidCode, IelEnable, ReducedCounter, Bias, Relay, Ground, StopStepping, StopLimit, StopLevel, Flap1, Flap2, Flap3, IelClock, LastCheck, InvalidCount, HeadMask}
+use Rattle.frame.specs.Items.{rowOf, heldAt}
 use Rattle.frame.specs.Write.{quarterOf, groundAt, muxOf, frameOf, latchOf}
-use Rattle.frame.specs.Read.{periodOf, phaseOf, carries, allAre, arrivedOf}
+use Rattle.frame.specs.Read.{periodOf, phaseOf, isPlain, carries, allAre, arrivedOf}
 use Rattle.frame.specs.Laws.{byte39, spreads}
 
 -- a choice by a test is the same where it is the same in each arm that the test can take
@@ -25,57 +26,57 @@ pick-same false p q = q refl
 module _ (h g : Held) (i l : ℕ) where
   -- they agree on each plain item that the frame of index i carries
   abbrev Agree : Type 0
-  Agree = (k : ℕ) → k < 25 → i % periodOf k ≡ phaseOf k → heldAt h k ≡ heldAt g k
+  Agree = (k : ℕ) → isPlain k ≡ true → i % periodOf k ≡ phaseOf k → heldAt h k ≡ heldAt g k
 
   module _ (a : Agree) where
     quarter-same : quarterOf h (i % 4) ≡ quarterOf g (i % 4)
-    unfolding quarterOf
+    unfolding quarterOf isPlain
     quarter-same =
-        pick-same (eqb (i % 4) 0) (λ e. rw (a 15 (omega arith) (eqb-true _ _ e)))
-        (λ n. pick-same (eqb (i % 4) 2) (λ e. rw (a 16 (omega arith) (eqb-true _ _ e)))
-        (λ n. pick-same (eqb (i % 4) 3) (λ e. rw (a 17 (omega arith) (eqb-true _ _ e))) (λ n. refl)))
+        pick-same (eqb (i % 4) 0) (λ e. rw (a (rowOf StopStepping) refl (eqb-true _ _ e)))
+        (λ n. pick-same (eqb (i % 4) 2) (λ e. rw (a (rowOf StopLimit) refl (eqb-true _ _ e)))
+        (λ n. pick-same (eqb (i % 4) 3) (λ e. rw (a (rowOf StopLevel) refl (eqb-true _ _ e))) (λ n. refl)))
 
     ground-same : groundAt h (i % 8) ≡ groundAt g (i % 8)
-    unfolding groundAt
-    ground-same = pick-same (eqb (i % 8) 0) (λ e. a 14 (omega arith) (eqb-true _ _ e)) (λ n. refl)
+    unfolding groundAt isPlain
+    ground-same = pick-same (eqb (i % 8) 0) (λ e. a (rowOf Ground) refl (eqb-true _ _ e)) (λ n. refl)
 
     mux-same : muxOf h l (i % 32) ≡ muxOf g l (i % 32)
-    unfolding muxOf
+    unfolding muxOf isPlain
     mux-same =
         pick-same (eqb (i % 32) 0) (λ e. refl)
         (λ n. pick-same (eqb (i % 32) 1) (λ e. refl)
         (λ n. pick-same (eqb (i % 32) 2) (λ e. refl)
         (λ n. pick-same (eqb (i % 32) 3) (λ e. refl)
         (λ n. pick-same (eqb (i % 32) 12)
-        (λ e. let q = eqb-true _ _ e in rw (a 18 (omega arith) q, a 19 (omega arith) q, a 20 (omega arith) q, a 21 (omega arith) q))
-        (λ n. pick-same (eqb (i % 32) 21) (λ e. a 22 (omega arith) (eqb-true _ _ e))
-        (λ n. pick-same (eqb (i % 32) 22) (λ e. a 23 (omega arith) (eqb-true _ _ e))
+        (λ e. let q = eqb-true _ _ e in rw (a (rowOf Flap1) refl q, a (rowOf Flap2) refl q, a (rowOf Flap3) refl q, a (rowOf IelClock) refl q))
+        (λ n. pick-same (eqb (i % 32) 21) (λ e. a (rowOf LastCheck) refl (eqb-true _ _ e))
+        (λ n. pick-same (eqb (i % 32) 22) (λ e. a (rowOf InvalidCount) refl (eqb-true _ _ e))
         (λ n. pick-same (eqb (i % 32) 27) (λ e. refl)
         (λ n. pick-same (eqb (i % 32) 28) (λ e. refl)
-        (λ n. pick-same (eqb (i % 32) 31) (λ e. rw (a 24 (omega arith) (eqb-true _ _ e))) (λ n. refl))))))))))
+        (λ n. pick-same (eqb (i % 32) 31) (λ e. rw (a (rowOf HeadMask) refl (eqb-true _ _ e))) (λ n. refl))))))))))
 
     pub tells-only : frameOf h i l ≡ frameOf g i l
-    unfolding frameOf
+    unfolding frameOf isPlain
     tells-only =
         let z : i % 1 ≡ 0 = omega arith in
         rw (
           quarter-same,
           ground-same,
           mux-same,
-          a 0 (omega arith) z,
-          a 1 (omega arith) z,
-          a 2 (omega arith) z,
-          a 3 (omega arith) z,
-          a 4 (omega arith) z,
-          a 5 (omega arith) z,
-          a 6 (omega arith) z,
-          a 7 (omega arith) z,
-          a 8 (omega arith) z,
-          a 9 (omega arith) z,
-          a 10 (omega arith) z,
-          a 11 (omega arith) z,
-          a 12 (omega arith) z,
-          a 13 (omega arith) z,
+          a (rowOf Parallel) refl z,
+          a (rowOf Multiplexer1) refl z,
+          a (rowOf Multiplexer2) refl z,
+          a (rowOf Multiplexer3) refl z,
+          a (rowOf ErrorCode) refl z,
+          a (rowOf DirectionStop) refl z,
+          a (rowOf DirectionStart) refl z,
+          a (rowOf EnergyStop) refl z,
+          a (rowOf EnergyStart) refl z,
+          a (rowOf LastInvalidCode) refl z,
+          a (rowOf IelEnable) refl z,
+          a (rowOf ReducedCounter) refl z,
+          a (rowOf Bias) refl z,
+          a (rowOf Relay) refl z,
         )
 
   pub hides : (k : ℕ) → ((j : ℕ) → (j ≡ k → ⊥) → heldAt h j ≡ heldAt g j) → carries k i ≡ false → frameOf h i l ≡ frameOf g i l

@@ -3,17 +3,17 @@
 use mathlib.Core.Path.{_≡_, refl, sym, ap, _∙_}
 use mathlib.Core.Bool.{true}
 use mathlib.Core.List.{List}
-use Prim.Native.Nat.{ℕ, _-_, _/_, _%_, _^_, _<_}
+use Prim.Native.Nat.{ℕ, _-_, _/_, _%_, _^_}
 use native.Mathlib.Nat.{mod-mod}
 use native.Mathlib.Omega.{arith}
 use lib.Bits.{bitAnd, and-shr, and-mod, and-mask}
-use lib.Dec.{ltb}
 use lib.ListN.{getD}
-use borrow.Author.Tests.{eq-eqb, eqb-true, ltb-true}
+use borrow.Author.Tests.{eq-eqb, eqb-true}
 use Rattle.frame.specs.declared.Reading.the-variants.{Value}
-use Rattle.frame.specs.Read.{periodOf, phaseOf, carries, indexOf, fieldOf, readOf}
+use Rattle.frame.specs.Read.{periodOf, phaseOf, isPlain, carries, indexOf, fieldOf, readOf}
 use Rattle.frame.specs.Laws.{byte39, spreads, mask39, masks, Alike}
-use Rattle.frame.proofs.Each.{each, _&_, end}
+use Rattle.frame.proofs.Each.{_&_, end}
+use Rattle.frame.proofs.Rows.{each-plain, spread}
 use Rattle.frame.proofs.Tells.{pick-same}
 
 -- the j bits from bit k on, where the mask has them all
@@ -52,42 +52,45 @@ module _ (f g : List ℕ) (a : Alike f g) where
   abbrev Same : ℕ → Type 0
   Same k = indexOf f % periodOf k ≡ phaseOf k → fieldOf f k ≡ fieldOf g k
 
-  field-same : (k : ℕ) → k < 25 → Same k
+  field-same : (k : ℕ) → isPlain k ≡ true → Same k
+  unfolding isPlain
   field-same =
-      each Same 25 (
-      (λ e. let p = part 1 0x40 6 1 refl refl in omega arith)
-      & (λ e. let p = part 6 0x49 0 1 refl refl in omega arith)
-      & (λ e. let p = part 6 0x49 3 1 refl refl in omega arith)
-      & (λ e. let p = part 6 0x49 6 1 refl refl in omega arith)
-      & (λ e. let p = part 7 0xF0 4 4 refl refl in omega arith)
-      & (λ e. let p = part 8 0x0F 0 4 refl refl in let q = byte-same 9 refl in omega (arith, a .first .bytes 9))
-      & (λ e. let q = byte-same 9 refl in omega arith)
-      & (λ e. let p = byte-same 9 refl in let q = byte-same 10 refl in rw (p, q))
-      & (λ e. let q = byte-same 10 refl in omega arith)
-      & (λ e. let q = byte-same 16 refl in omega arith)
-      & (λ e. let p = part 19 0x80 7 1 refl refl in omega arith)
-      & (λ e. let p = part 20 0x3F 0 6 refl refl in omega arith)
-      & (λ e. let q = byte-same 36 refl in omega arith)
-      & (λ e. let p = part 2 0x40 6 1 refl refl in omega arith)
-      & (λ e. let q = byte-same 38 (rw e) in omega arith)
-      & (λ e. let p = part 37 0x10 4 1 (rw e) refl in omega arith)
-      & (λ e. let p = part 37 0xF0 4 4 (rw e) refl in omega arith)
-      & (λ e. let p = part 37 0xF0 4 4 (rw e) refl in omega arith)
-      & (λ e. let p = part 39 0xF0 4 1 (at 12 e) refl in omega arith)
-      & (λ e. let p = part 39 0xF0 5 1 (at 12 e) refl in omega arith)
-      & (λ e. let p = part 39 0xF0 6 1 (at 12 e) refl in omega arith)
-      & (λ e. let p = part 39 0xF0 7 1 (at 12 e) refl in omega arith)
-      & (λ e. let q = byte-same 39 (at 21 e) in omega arith)
-      & (λ e. let q = byte-same 39 (at 22 e) in omega arith)
-      & (λ e. let p = part 39 0x70 4 3 (at 31 e) refl in omega arith)
+      each-plain Same (
+      (λ r e. let p = part 1 0x40 6 1 refl refl in omega arith)
+      & (λ r e. let p = part 6 0x49 0 1 refl refl in omega arith)
+      & (λ r e. let p = part 6 0x49 3 1 refl refl in omega arith)
+      & (λ r e. let p = part 6 0x49 6 1 refl refl in omega arith)
+      & (λ r e. let p = part 7 0xF0 4 4 refl refl in omega arith)
+      & (λ r e. let p = part 8 0x0F 0 4 refl refl in let q = byte-same 9 refl in omega (arith, a .first .bytes 9))
+      & (λ r e. let q = byte-same 9 refl in omega arith)
+      & (λ r e. let p = byte-same 9 refl in let q = byte-same 10 refl in rw (p, q))
+      & (λ r e. let q = byte-same 10 refl in omega arith)
+      & (λ r e. let q = byte-same 16 refl in omega arith)
+      & (λ r e. let p = part 19 0x80 7 1 refl refl in omega arith)
+      & (λ r e. let p = part 20 0x3F 0 6 refl refl in omega arith)
+      & (λ r e. let q = byte-same 36 refl in omega arith)
+      & (λ r e. let p = part 2 0x40 6 1 refl refl in omega arith)
+      & (λ r e. let q = byte-same 38 (rw e) in omega arith)
+      & (λ r e. let p = part 37 0x10 4 1 (rw e) refl in omega arith)
+      & (λ r e. let p = part 37 0xF0 4 4 (rw e) refl in omega arith)
+      & (λ r e. let p = part 37 0xF0 4 4 (rw e) refl in omega arith)
+      & (λ r e. let p = part 39 0xF0 4 1 (at 12 e) refl in omega arith)
+      & (λ r e. let p = part 39 0xF0 5 1 (at 12 e) refl in omega arith)
+      & (λ r e. let p = part 39 0xF0 6 1 (at 12 e) refl in omega arith)
+      & (λ r e. let p = part 39 0xF0 7 1 (at 12 e) refl in omega arith)
+      & (λ r e. let q = byte-same 39 (at 21 e) in omega arith)
+      & (λ r e. let q = byte-same 39 (at 22 e) in omega arith)
+      & (λ r e. let p = part 39 0x70 4 3 (at 31 e) refl in omega arith)
+      & spread
+      & spread
       & end)
 
   pub read-same : (k : ℕ) → readOf f k ≡ readOf g k
   unfolding readOf
   read-same k =
       rw (eq-eqb _ _ (a .first .forty), eq-eqb _ _ (a .second .forty), ← index-same)
-      (pick-same (ltb k 25)
-      (λ t. pick-same (carries k (indexOf f)) (λ c. value (field-same k (ltb-true _ _ t) (eqb-true _ _ c))) (λ n. refl))
+      (pick-same (isPlain k)
+      (λ t. pick-same (carries k (indexOf f)) (λ c. value (field-same k t (eqb-true _ _ c))) (λ n. refl))
       (λ n. refl))
     where
       value : {m n : ℕ} → m ≡ n → Value m ≡ Value n

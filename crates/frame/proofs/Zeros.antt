@@ -11,8 +11,10 @@ use lib.ListN.{getD}
 use Rattle.base.specs.Pick.{pick}
 use Rattle.base.proofs.Table.{allBelow, below}
 use Rattle.frame.specs.declared.Held.{Held}
+use Rattle.frame.specs.declared.Item.the-variants.{LastInvalidCode, Bias, Ground, LastCheck, InvalidCount}
+use Rattle.frame.specs.Items.{rowOf}
 use Rattle.frame.specs.Write.{quarterOf, groundAt, muxOf, frameOf}
-use Rattle.frame.specs.Read.{rows}
+use Rattle.frame.specs.Read.{rows, isPlain}
 use Rattle.frame.specs.Laws.{mask37, mask38, mask39, masks, taken, Fits}
 use Rattle.frame.proofs.Each.{each, _&_, end}
 
@@ -37,29 +39,29 @@ module _ (h : Held) (i l : ℕ) (fits : Fits h) where
   unfolding quarterOf
   quarter =
       each (λ j. Under (mask37 j) (quarterOf h j)) 4 (
-      field 0x10 2 0x10 tt (h .stepping % 2) (omega arith)
+      field 0x10 2 0x10 tt (h .stopstepping % 2) (omega arith)
       & refl
-      & field 0xF0 16 0x10 tt (h .limit % 16) (omega arith)
-      & field 0xF0 16 0x10 tt (h .level % 16) (omega arith)
+      & field 0xF0 16 0x10 tt (h .stoplimit % 16) (omega arith)
+      & field 0xF0 16 0x10 tt (h .stoplevel % 16) (omega arith)
       & end)
 
   ground : (j : ℕ) → j < 8 → Under (mask38 j) (groundAt h j)
-  unfolding groundAt
+  unfolding groundAt isPlain
   ground =
       each (λ j. Under (mask38 j) (groundAt h j)) 8
-      (low 8 (h .ground) (fits .plain 14 (omega arith)) & refl & refl & refl & refl & refl & refl & refl & end)
+      (low 8 (h .ground) (fits .plain (rowOf Ground) refl) & refl & refl & refl & refl & refl & refl & refl & end)
 
   flaps : Under 0xF0 (h .flap1 % 2 * 0x10 + h .flap2 % 2 * 0x20 + h .flap3 % 2 * 0x40 + h .clock % 2 * 0x80)
   flaps =
       one-of 0xF0 16 (λ v. v * 0x10) tt (h .flap1 % 2 + 2 * (h .flap2 % 2) + 4 * (h .flap3 % 2) + 8 * (h .clock % 2)) _ (omega arith) (omega arith)
 
   last : (j : ℕ) → j < 32 → Under (mask39 j) (muxOf h l j)
-  unfolding muxOf
+  unfolding muxOf isPlain
   last =
       each (λ j. Under (mask39 j) (muxOf h l j)) 32 (
       low 8 _ (omega arith) & low 8 _ (omega arith) & low 8 _ (omega arith) & low 8 _ (omega arith)
       & refl & refl & refl & refl & refl & refl & refl & refl & flaps & refl & refl & refl
-      & refl & refl & refl & refl & refl & low 8 _ (fits .plain 22 (omega arith)) & low 8 _ (fits .plain 23 (omega arith)) & refl
+      & refl & refl & refl & refl & refl & low 8 _ (fits .plain (rowOf LastCheck) refl) & low 8 _ (fits .plain (rowOf InvalidCount) refl) & refl
       & refl & refl & refl & low 8 _ (omega arith) & low 8 _ (omega arith) & refl & refl & field 0x70 8 0x10 tt (h .mask % 8) (omega arith)
       & end)
 
@@ -81,7 +83,7 @@ module _ (h : Held) (i l : ℕ) (fits : Fits h) where
       one-of 0x49 8 (λ v. v % 2 * 0x01 + v / 2 % 2 * 0x08 + v / 4 * 0x40) tt (h .mux1 % 2 + 2 * (h .mux2 % 2) + 4 * (h .mux3 % 2)) _ (omega arith) (omega arith)
 
   pub zeros : (b : ℕ) → b < 40 → Under (getD (masks (i % 32)) b 0) (getD (frameOf h i l) b 0)
-  unfolding frameOf
+  unfolding frameOf isPlain
   zeros =
       each (λ b. Under (getD (masks (i % 32)) b 0) (getD (frameOf h i l) b 0)) 40 (
       low 5 (i % 32) (omega arith)
@@ -94,12 +96,12 @@ module _ (h : Held) (i l : ℕ) (fits : Fits h) where
       & low 8 _ (omega arith)
       & low 8 _ (omega arith)
       & refl & refl & refl & refl & refl
-      & low 8 (h .last) (fits .plain 9 (omega arith))
+      & low 8 (h .last) (fits .plain (rowOf LastInvalidCode) refl)
       & refl & refl
       & field 0x80 2 0x80 tt (h .enable % 2) (omega arith)
       & low 6 _ (omega arith)
       & refl & refl & refl & refl & refl & refl & refl & refl & refl & refl & refl & refl & refl & refl & refl
-      & low 8 (h .bias) (fits .plain 12 (omega arith))
+      & low 8 (h .bias) (fits .plain (rowOf Bias) refl)
       & quarter-at
       & ground-at
       & last (i % 32) (omega arith)

@@ -1,4 +1,4 @@
--- The 27 items (01, "The 40-byte frame": the numbers and switches placed in its first paragraph), each in its row, and the refusals' numbers.
+-- The items (01, "The 40-byte frame": the numbers and switches placed in its first paragraph), each in its row, and the refusals' numbers.
 -- Assumes nothing.
 use mathlib.Core.List.{[], _∷_}
 use Prim.Native.Nat.{ℕ}
@@ -7,9 +7,13 @@ use lib.ListN.{getD}
 use Rattle.base.specs.Pick.{pick}
 use Rattle.frame.specs.declared.Held.{Held}
 use Rattle.frame.specs.declared.Item.{Item}
-use Rattle.frame.specs.declared.Item.the-variants.{Parallel, Multiplexer1, Multiplexer2, Multiplexer3, ErrorCode, DirectionStop, DirectionStart, EnergyStop, EnergyStart, LastInvalidCode, IelEnable, ReducedCounter, Bias, Relay, Ground, Stepping, Limit, Level, Flap1, Flap2, Flap3, IelClock, LastCheck, InvalidCount, HeadMask, LongCounter, FreeTime}
+use Rattle.frame.specs.declared.Item.the-variants.{Parallel, Multiplexer1, Multiplexer2, Multiplexer3, ErrorCode, DirectionStop, DirectionStart, EnergyStop, EnergyStart, LastInvalidCode, IelEnable, ReducedCounter, Bias, Relay, Ground, StopStepping, StopLimit, StopLevel, Flap1, Flap2, Flap3, IelClock, LastCheck, InvalidCount, HeadMask, LongCounter, FreeTime}
 use Rattle.frame.specs.declared.Refusal.{Refusal}
 use Rattle.frame.specs.declared.Refusal.the-variants.{NotForty, NoRoom}
+
+-- how many there are
+abbrev pub items : ℕ
+items = 27
 
 -- the row of an item, in `heldAt` and in the table `rows`
 abbrev pub rowOf : Item → ℕ
@@ -28,9 +32,9 @@ rowOf ReducedCounter = 11
 rowOf Bias = 12
 rowOf Relay = 13
 rowOf Ground = 14
-rowOf Stepping = 15
-rowOf Limit = 16
-rowOf Level = 17
+rowOf StopStepping = 15
+rowOf StopLimit = 16
+rowOf StopLevel = 17
 rowOf Flap1 = 18
 rowOf Flap2 = 19
 rowOf Flap3 = 20
@@ -46,7 +50,7 @@ abbrev pub heldAt : Held → ℕ → ℕ
 heldAt h k =
     getD
     (h .parallel ∷ h .mux1 ∷ h .mux2 ∷ h .mux3 ∷ h .error ∷ h .dstop ∷ h .dstart ∷ h .estop ∷ h .estart
-    ∷ h .last ∷ h .enable ∷ h .reduced ∷ h .bias ∷ h .relay ∷ h .ground ∷ h .stepping ∷ h .limit ∷ h .level
+    ∷ h .last ∷ h .enable ∷ h .reduced ∷ h .bias ∷ h .relay ∷ h .ground ∷ h .stopstepping ∷ h .stoplimit ∷ h .stoplevel
     ∷ h .flap1 ∷ h .flap2 ∷ h .flap3 ∷ h .clock ∷ h .check ∷ h .count ∷ h .mask ∷ h .long ∷ h .free ∷ [])
     k 0
 

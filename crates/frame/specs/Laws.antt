@@ -12,9 +12,9 @@ use Rattle.frame.specs.declared.Held.{Held}
 use Rattle.frame.specs.declared.Arrived.the-variants.{Whole}
 use Rattle.frame.specs.declared.Reading.the-variants.{Nothing, Value}
 use Rattle.frame.specs.declared.Refusal.the-variants.{NotForty, NoRoom}
-use Rattle.frame.specs.Items.{heldAt, numberOf}
+use Rattle.frame.specs.Items.{items, heldAt, numberOf}
 use Rattle.frame.specs.Write.{latchOf, frameOf}
-use Rattle.frame.specs.Read.{Row, rows, remOf, carries, indexOf, readOf, arrivedOf}
+use Rattle.frame.specs.Read.{Place, Row, rows, remOf, isPlain, carries, indexOf, readOf, arrivedOf}
 
 abbrev pub byte39 : List ℕ → ℕ
 byte39 f = getD f 39 0
@@ -45,24 +45,21 @@ masks i =
     ∷ 0x3F ∷ 0 ∷ 0 ∷ 0 ∷ 0 ∷ 0 ∷ 0 ∷ 0 ∷ 0 ∷ 0  -- 20-29
     ∷ 0 ∷ 0 ∷ 0 ∷ 0 ∷ 0 ∷ 0 ∷ 0xFF ∷ mask37 i ∷ mask38 i ∷ mask39 i ∷ []  -- 30-39
 
--- The bits that a row takes of byte b: its item is `rem - 1` at most, times `div`, in the word of bytes `byte` and `byte + 1`.
-abbrev pub bitsAt : Row → ℕ → ℕ
-bitsAt r b =
-    pick (eqb b (r .byte)) ((r .rem - 1) * r .div / 256)
-    (pick (eqb b (r .byte + 1)) ((r .rem - 1) * r .div % 256) 0)
+-- the bits of byte b of the frame of index i that a place takes; that the rows take; and with them the index in byte 0
+abbrev pub bitsAt : Place → ℕ → ℕ → ℕ
+bitsAt p i b = pick (eqb b (p .byte) && eqb (i % p .when .period) (p .when .phase)) (p .mask) 0
 
--- does the frame of index i hold a byte of the row's item: the one that brings it, or one of the `born` before it?
-abbrev pub holdsIt : Row → ℕ → Bool
-holdsIt r i = leb (r .phase - r .born) (i % r .period) && leb (i % r .period) (r .phase)
+abbrev pub bitsOf : Row → ℕ → ℕ → ℕ
+bitsOf [] i b = 0
+bitsOf (p ∷ ps) i b = bitsAt p i b + bitsOf ps i b
 
--- the bits of byte b of the frame of index i that some row takes, and in byte 0 the index
 abbrev pub taken : List Row → ℕ → ℕ → ℕ
 taken [] i b = pick (eqb b 0) 0x1F 0
-taken (r ∷ rs) i b = pick (holdsIt r i) (bitsAt r b) 0 + taken rs i b
+taken (r ∷ rs) i b = bitsOf r i b + taken rs i b
 
 -- each item is within its width
 pub record Fits (h : Held) : Type 0 where
-  pub plain : (k : ℕ) → k < 25 → heldAt h k < remOf k
+  pub plain : (k : ℕ) → isPlain k ≡ true → heldAt h k < remOf k
   pub long : h .long < 2 ^ 32
   pub free : h .free < 2 ^ 16
 
@@ -79,11 +76,11 @@ pub record Alike (f g : List ℕ) : Type 0 where
 
 pub record Laws : Type 0 where
   -- each plain item that a frame carries reads back, modulo its width; of any other the frame says nothing
-  pub back : (h : Held) (i l k : ℕ) → k < 25 → carries k i ≡ true → readOf (frameOf h i l) k ≡ Value (heldAt h k % remOf k)
-  pub exact : (h : Held) (i l k : ℕ) → Fits h → k < 25 → carries k i ≡ true → readOf (frameOf h i l) k ≡ Value (heldAt h k)
-  pub silent : (h : Held) (i l k : ℕ) → k < 25 → carries k i ≡ false → readOf (frameOf h i l) k ≡ Nothing
+  pub back : (h : Held) (i l k : ℕ) → isPlain k ≡ true → carries k i ≡ true → readOf (frameOf h i l) k ≡ Value (heldAt h k % remOf k)
+  pub exact : (h : Held) (i l k : ℕ) → Fits h → isPlain k ≡ true → carries k i ≡ true → readOf (frameOf h i l) k ≡ Value (heldAt h k)
+  pub silent : (h : Held) (i l k : ℕ) → isPlain k ≡ true → carries k i ≡ false → readOf (frameOf h i l) k ≡ Nothing
   -- a frame that does not carry an item tells nothing of it: with that item alone changed the bytes are the same
-  pub hides : (h g : Held) (i l k : ℕ) → k < 27 → ((j : ℕ) → (j ≡ k → ⊥) → heldAt h j ≡ heldAt g j) → carries k i ≡ false
+  pub hides : (h g : Held) (i l k : ℕ) → k < items → ((j : ℕ) → (j ≡ k → ⊥) → heldAt h j ≡ heldAt g j) → carries k i ≡ false
       → frameOf h i l ≡ frameOf g i l
   -- the long EDB counter: byte 39 of frames 0-3, built on end, joined high first, is what was held at frame 0 (m is the latch before)
   pub long : (a b c d : Held) (m : ℕ) → a .long < 2 ^ 32 → (l₀ l₁ l₂ l₃ : ℕ)

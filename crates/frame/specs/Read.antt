@@ -2,7 +2,7 @@
 -- Assumes nothing.
 use mathlib.Core.Bool.{Bool, true, false}
 use mathlib.Core.List.{List, [], _∷_}
-use Prim.Native.Nat.{ℕ, _+_, _*_, _/_, _%_}
+use Prim.Native.Nat.{ℕ, zero, suc, _+_, _-_, _*_, _/_, _%_, _^_}
 use lib.Dec.{eqb, ltb}
 use lib.ListN.{length, getD}
 use Rattle.base.specs.Pick.{pick}
@@ -11,81 +11,136 @@ use Rattle.frame.specs.declared.Arrived.the-variants.{Whole, FillC0, Fil
 use Rattle.frame.specs.declared.Reading.{Reading}
 use Rattle.frame.specs.declared.Reading.the-variants.{Nothing, Value}
 use Rattle.frame.specs.declared.Spot.{Spot}
-use Rattle.frame.specs.Items.{numbered}
+use Rattle.frame.specs.Items.{items, numbered}
 
--- Where an item stands. Its word is bytes `byte` and `byte + 1`, high first; the item is that word divided by `div`, modulo `rem`.
--- It is brought (a number spread over frames: its last byte is) where the frame's index modulo `period` is `phase`; its first frame
--- is then `born` slots old.
-pub record Row : Type 0 where
-  pub byte : ℕ
-  pub div : ℕ
-  pub rem : ℕ
+-- The frames that carry something: those whose index modulo `period` is `phase`.
+pub record When : Type 0 where
   pub period : ℕ
   pub phase : ℕ
-  pub born : ℕ
 
-abbrev pub row : ℕ → ℕ → ℕ → ℕ → ℕ → ℕ → Row
-row b d m p q a = record { byte = b; div = d; rem = m; period = p; phase = q; born = a }
+abbrev pub modulo : ℕ → ℕ → When
+modulo p q = record { period = p; phase = q }
+
+-- every frame
+abbrev pub always : When
+always = modulo 1 0
+
+-- the frame of index i
+abbrev pub index : ℕ → When
+index i = modulo 32 i
+
+-- Bits `mask` of byte `byte`, in the frames of `when`.
+pub record Place : Type 0 where
+  pub byte : ℕ
+  pub mask : ℕ
+  pub when : When
+
+abbrev pub at : ℕ → ℕ → When → Place
+at b m w = record { byte = b; mask = m; when = w }
+
+-- where an item stands: its high bits first
+abbrev pub Row : Type 0
+Row = List Place
+
+abbrev pub one : ℕ → ℕ → When → Row
+one b m w = at b m w ∷ []
 
 abbrev pub rows : List Row
 rows =
-    -- byte div rem period phase born
-    row 0 0x40 2 1 0 0 ∷  -- 0 serial/parallel, byte 1 (40)
-    row 5 0x01 2 1 0 0 ∷  -- 1 E multiplexer 1, byte 6 (01)
-    row 5 0x08 2 1 0 0 ∷  -- 2 E multiplexer 2, byte 6 (08)
-    row 5 0x40 2 1 0 0 ∷  -- 3 E multiplexer 3, byte 6 (40)
-    row 6 0x10 16 1 0 0 ∷  -- 4 error code, byte 7 (F0)
-    row 8 0x80 32 1 0 0 ∷  -- 5 direction stop, bytes 8 (0F) and 9 (80)
-    row 8 0x04 32 1 0 0 ∷  -- 6 direction start, byte 9 (7C)
-    row 9 0x20 32 1 0 0 ∷  -- 7 energy stop, bytes 9 (03) and 10 (E0)
-    row 9 0x01 32 1 0 0 ∷  -- 8 energy start, byte 10 (1F)
-    row 15 0x01 256 1 0 0 ∷  -- 9 last invalid code, byte 16
-    row 18 0x80 2 1 0 0 ∷  -- 10 IEL enable, byte 19 (80)
-    row 19 0x01 64 1 0 0 ∷  -- 11 EDB counter minus 1, byte 20 (3F)
-    row 35 0x01 256 1 0 0 ∷  -- 12 bias, byte 36
-    row 1 0x40 2 1 0 0 ∷  -- 13 relay, byte 2 (40)
-    row 37 0x01 256 8 0 0 ∷  -- 14 ground, byte 38
-    row 36 0x10 2 4 0 0 ∷  -- 15 stepping, byte 37 (10)
-    row 36 0x10 16 4 2 0 ∷  -- 16 limit, byte 37 (F0)
-    row 36 0x10 16 4 3 0 ∷  -- 17 level, byte 37 (F0)
-    row 38 0x10 2 32 12 0 ∷  -- 18 flap 1, byte 39 (10)
-    row 38 0x20 2 32 12 0 ∷  -- 19 flap 2, byte 39 (20)
-    row 38 0x40 2 32 12 0 ∷  -- 20 flap 3, byte 39 (40)
-    row 38 0x80 2 32 12 0 ∷  -- 21 IEL clock, byte 39 (80)
-    row 38 0x01 256 32 21 0 ∷  -- 22 last check, byte 39
-    row 38 0x01 256 32 22 0 ∷  -- 23 invalid count, byte 39
-    row 38 0x10 8 32 31 0 ∷  -- 24 head mask, byte 39 (70)
-    row 38 0x01 256 32 3 3 ∷  -- 25 long EDB counter, byte 39 of frames 0 to 3
-    row 38 0x01 256 32 28 1 ∷ []  -- 26 free time, byte 39 of frames 27 and 28
+    -- byte (mask) frames
+    one 1 0x40 always ∷  -- serial/parallel
+    one 6 0x01 always ∷  -- E multiplexer 1
+    one 6 0x08 always ∷  -- E multiplexer 2
+    one 6 0x40 always ∷  -- E multiplexer 3
+    one 7 0xF0 always ∷  -- error code
+    (at 8 0x0F always ∷ at 9 0x80 always ∷ []) ∷  -- direction stop, bits 4-1 and bit 0
+    one 9 0x7C always ∷  -- direction start
+    (at 9 0x03 always ∷ at 10 0xE0 always ∷ []) ∷  -- energy stop, bits 4-3 and bits 2-0
+    one 10 0x1F always ∷  -- energy start
+    one 16 0xFF always ∷  -- last invalid code
+    one 19 0x80 always ∷  -- IEL enable
+    one 20 0x3F always ∷  -- EDB counter minus 1, modulo 64
+    one 36 0xFF always ∷  -- bias
+    one 2 0x40 always ∷  -- relay, ERDRELS2
+    one 38 0xFF (modulo 8 0) ∷  -- ground
+    one 37 0x10 (modulo 4 0) ∷  -- stop's stepping, ERDSPMCP
+    one 37 0xF0 (modulo 4 2) ∷  -- stop's limit, ERDSPMVL
+    one 37 0xF0 (modulo 4 3) ∷  -- stop's level, ERDSPMHC
+    one 39 0x10 (index 12) ∷  -- flap 1
+    one 39 0x20 (index 12) ∷  -- flap 2
+    one 39 0x40 (index 12) ∷  -- flap 3
+    one 39 0x80 (index 12) ∷  -- IEL clock
+    one 39 0xFF (index 21) ∷  -- last check
+    one 39 0xFF (index 22) ∷  -- invalid count
+    one 39 0x70 (index 31) ∷  -- head mask
+    (at 39 0xFF (index 0) ∷ at 39 0xFF (index 1) ∷ at 39 0xFF (index 2) ∷ at 39 0xFF (index 3) ∷ []) ∷  -- long EDB counter, high byte first
+    (at 39 0xFF (index 27) ∷ at 39 0xFF (index 28) ∷ []) ∷ []  -- free time, high byte first
+
+-- the first and the last place of a row
+abbrev pub firstOf : Row → Place
+firstOf [] = at 0 0 always
+firstOf (p ∷ ps) = p
+
+abbrev pub lastOf : Row → Place
+lastOf [] = at 0 0 always
+lastOf (p ∷ []) = p
+lastOf (p ∷ q ∷ ps) = lastOf (q ∷ ps)
+
+-- An item is read from a word of two bytes, high first, that ends with its last byte. The bits of that word that a place takes: none, where it
+-- is in another frame than the last.
+abbrev pub inWord : Place → Place → ℕ
+inWord l p = pick (eqb (p .when .phase) (l .when .phase)) (p .mask * 256 ^ (l .byte - p .byte)) 0
+
+abbrev pub maskOf : Place → Row → ℕ
+maskOf l [] = 0
+maskOf l (p ∷ ps) = inWord l p + maskOf l ps
+
+-- the weight of the lowest bit of a mask of up to n bits
+abbrev pub lowest : ℕ → ℕ → ℕ
+lowest zero m = 1
+lowest (suc n) m = pick (eqb (m % 2) 1) 1 (2 * lowest n (m / 2))
+
+-- The word is divided by `div`, and the item is the remainder by `rem`: how many values its bits have.
+abbrev pub div : Row → ℕ
+div r = lowest 16 (maskOf (lastOf r) r)
+
+abbrev pub rem : Row → ℕ
+rem r = maskOf (lastOf r) r / div r + 1
 
 abbrev pub column : (Row → ℕ) → List Row → List ℕ
 column f [] = []
 column f (r ∷ rs) = f r ∷ column f rs
 
 abbrev pub byteOf : ℕ → ℕ
-byteOf k = getD (column (λ r. r .byte) rows) k 0
+byteOf k = getD (column (λ r. lastOf r .byte - 1) rows) k 0
 
 abbrev pub divOf : ℕ → ℕ
-divOf k = getD (column (λ r. r .div) rows) k 0
+divOf k = getD (column div rows) k 0
 
 abbrev pub remOf : ℕ → ℕ
-remOf k = getD (column (λ r. r .rem) rows) k 0
+remOf k = getD (column rem rows) k 0
 
+-- the frames that bring the item: of a number spread over frames, its last byte
 abbrev pub periodOf : ℕ → ℕ
-periodOf k = getD (column (λ r. r .period) rows) k 0
+periodOf k = getD (column (λ r. lastOf r .when .period) rows) k 0
 
 abbrev pub phaseOf : ℕ → ℕ
-phaseOf k = getD (column (λ r. r .phase) rows) k 0
+phaseOf k = getD (column (λ r. lastOf r .when .phase) rows) k 0
 
+-- how many slots old its first frame is then
 abbrev pub bornOf : ℕ → ℕ
-bornOf k = getD (column (λ r. r .born) rows) k 0
+bornOf k = getD (column (λ r. lastOf r .when .phase - firstOf r .when .phase) rows) k 0
+
+-- an item that one frame brings whole; the others are spread over frames
+unfoldable pub isPlain : ℕ → Bool
+isPlain k = pick (ltb k items) (eqb (bornOf k) 0) false
 
 -- what the code keeps of a row
-abbrev pub spot : ℕ → ℕ → ℕ → ℕ → ℕ → Spot
-spot b d m p q = record { byte = b; div = d; rem = m; period = p; phase = q }
+abbrev pub spot : ℕ → ℕ → ℕ → ℕ → ℕ → ℕ → Spot
+spot b d m p q a = record { byte = b; div = d; rem = m; period = p; phase = q; born = a }
 
 abbrev pub spotOf : ℕ → Spot
-spotOf k = spot (byteOf k) (divOf k) (remOf k) (periodOf k) (phaseOf k)
+spotOf k = spot (byteOf k) (divOf k) (remOf k) (periodOf k) (phaseOf k) (bornOf k)
 
 -- byte 0 (1F)
 abbrev pub indexOf : List ℕ → ℕ
@@ -98,11 +153,11 @@ fieldOf f k = (getD f (byteOf k) 0 * 256 + getD f (byteOf k + 1) 0) / divOf k % 
 abbrev pub carries : ℕ → ℕ → Bool
 carries k i = eqb (i % periodOf k) (phaseOf k)
 
--- what a whole frame tells of the item in row k: a plain item, one of the first 25, where the frame carries it
+-- what a whole frame tells of the item in row k: of a plain item its value, where the frame carries it
 unfoldable pub readOf : List ℕ → ℕ → Reading
 readOf f k =
     pick (eqb (length f) 40)
-    (pick (ltb k 25) (pick (carries k (indexOf f)) (Value (fieldOf f k)) Nothing) Nothing)
+    (pick (isPlain k) (pick (carries k (indexOf f)) (Value (fieldOf f k)) Nothing) Nothing)
     Nothing
 
 -- are the bytes all b?

@@ -14,12 +14,12 @@ use Rattle.frame.specs.Items.{numbered}
 abbrev pub latchOf : Held → ℕ → ℕ → ℕ
 latchOf h i l = pick (eqb (i % 32) 0) (h .long) (pick (eqb (i % 32) 27) (h .free) l)
 
--- byte 37 by the index modulo 4: 0 (10) stepping, ERDSPMCP; 2 (F0) limit, ERDSPMVL; 3 (F0) level, ERDSPMHC
+-- byte 37 by the index modulo 4: 0 (10) stop's stepping, ERDSPMCP; 2 (F0) its limit, ERDSPMVL; 3 (F0) its level, ERDSPMHC
 unfoldable pub quarterOf : Held → ℕ → ℕ
 quarterOf h i =
-    pick (eqb i 0) (h .stepping % 2 * 0x10)
-    (pick (eqb i 2) (h .limit % 16 * 0x10)
-    (pick (eqb i 3) (h .level % 16 * 0x10) 0))
+    pick (eqb i 0) (h .stopstepping % 2 * 0x10)
+    (pick (eqb i 2) (h .stoplimit % 16 * 0x10)
+    (pick (eqb i 3) (h .stoplevel % 16 * 0x10) 0))
 
 -- byte 38 by the index modulo 8: 0 ground
 unfoldable pub groundAt : Held → ℕ → ℕ

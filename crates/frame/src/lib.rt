@@ -1,10 +1,10 @@
 // The 40-byte housekeeping frame: what it shows, and how it is read, by one table. Crate `writing` writes it.
 // Keeps 01 "The 40-byte frame"; a frame the desk cannot take is 17.
 ghost use mathlib.Core.Path.{_≡_};
-ghost use Prim.Native.Nat.{_<_};
-ghost use lib.ListN.{length};
+ghost use Prim.Native.Nat.{_+_, _*_, _/_, _%_, _<_};
+ghost use lib.ListN.{length, getD};
 ghost use Rattle.frame.specs.Items.{rowOf, numberOf};
-ghost use Rattle.frame.specs.Read.{spot, spotOf, fieldOf, readOf, allAre, arrivedOf};
+ghost use Rattle.frame.specs.Read.{spot, spotOf, readOf, allAre, arrivedOf};
 
 // What a frame shows: the present value of each item, in the order of the rows. A switch is 0 or 1.
 pub struct Held {
@@ -24,9 +24,9 @@ pub struct Held {
     pub bias: u8,
     pub relay: u8,
     pub ground: u8,
-    pub stepping: u8,
-    pub limit: u8,
-    pub level: u8,
+    pub stopstepping: u8,
+    pub stoplimit: u8,
+    pub stoplevel: u8,
     pub flap1: u8,
     pub flap2: u8,
     pub flap3: u8,
@@ -37,6 +37,9 @@ pub struct Held {
     pub long: u32,
     pub free: u16,
 }
+
+// How many items there are.
+pub const ITEMS: usize = 27;
 
 pub enum Item {
     Parallel,
@@ -54,9 +57,9 @@ pub enum Item {
     Bias,
     Relay,
     Ground,
-    Stepping,
-    Limit,
-    Level,
+    StopStepping,
+    StopLimit,
+    StopLevel,
     Flap1,
     Flap2,
     Flap3,
@@ -92,14 +95,15 @@ pub enum Reading {
     Value(u32),
 }
 
-// Where a plain item stands: its word's first byte, what the word is divided by and the remainder then taken;
-// and the frames that bring it (index % period == phase).
+// Where an item stands: its word's first byte, what the word is divided by and the remainder then taken; the frames that bring it
+// (index % period == phase); and how many slots old its first frame is then, 0 for an item that one frame brings whole.
 struct Spot {
     byte: usize,
     div: u32,
     rem: u32,
     period: u8,
     phase: u8,
+    born: u8,
 }
 
 // The number of a refusal (01, "What the numbers mean").
@@ -131,9 +135,9 @@ pub fn row_of(item: Item) -> usize
         Item::Bias => 12,
         Item::Relay => 13,
         Item::Ground => 14,
-        Item::Stepping => 15,
-        Item::Limit => 16,
-        Item::Level => 17,
+        Item::StopStepping => 15,
+        Item::StopLimit => 16,
+        Item::StopLevel => 17,
         Item::Flap1 => 18,
         Item::Flap2 => 19,
         Item::Flap3 => 20,
@@ -146,86 +150,81 @@ pub fn row_of(item: Item) -> usize
     }
 }
 
-fn wide(x: u8) -> u32
-    ensures { λ r. ⌜ (r ≡ x) × (r < 256) ⌝ }
-{
-    x as u32
-}
-
 // One row of the table below.
-fn stands(byte: usize, div: u32, rem: u32, period: u8, phase: u8) -> Spot
-    ensures { λ r. ⌜ r ≡ spot byte div rem period phase ⌝ }
+fn stands(byte: usize, div: u32, rem: u32, period: u8, phase: u8, born: u8) -> Spot
+    ensures { λ r. ⌜ r ≡ spot byte div rem period phase born ⌝ }
 {
     Spot {
-        byte: byte,
-        div: div,
-        rem: rem,
-        period: period,
-        phase: phase,
+        byte,
+        div,
+        rem,
+        period,
+        phase,
+        born,
     }
 }
 
-// The rows of the plain items: byte, div, rem, period, phase. A `match` and no array, which would be built anew at each use.
-fn spot_of(row: usize) -> Spot
-    requires { ⌜ row < 25 ⌝ }
-    ensures { λ r. ⌜ r ≡ spotOf row ⌝ }
+// The rows of the items: byte, div, rem, period, phase, born. A `match` and no array, which would be built anew at each use.
+fn spot_of(item: Item) -> Spot
+    ensures { λ r. ⌜ r ≡ spotOf (rowOf item) ⌝ }
 {
-    match row {
-        0 => stands(0, 0x40, 2, 1, 0),
-        1 => stands(5, 0x01, 2, 1, 0),
-        2 => stands(5, 0x08, 2, 1, 0),
-        3 => stands(5, 0x40, 2, 1, 0),
-        4 => stands(6, 0x10, 16, 1, 0),
-        5 => stands(8, 0x80, 32, 1, 0),
-        6 => stands(8, 0x04, 32, 1, 0),
-        7 => stands(9, 0x20, 32, 1, 0),
-        8 => stands(9, 0x01, 32, 1, 0),
-        9 => stands(15, 0x01, 256, 1, 0),
-        10 => stands(18, 0x80, 2, 1, 0),
-        11 => stands(19, 0x01, 64, 1, 0),
-        12 => stands(35, 0x01, 256, 1, 0),
-        13 => stands(1, 0x40, 2, 1, 0),
-        14 => stands(37, 0x01, 256, 8, 0),
-        15 => stands(36, 0x10, 2, 4, 0),
-        16 => stands(36, 0x10, 16, 4, 2),
-        17 => stands(36, 0x10, 16, 4, 3),
-        18 => stands(38, 0x10, 2, 32, 12),
-        19 => stands(38, 0x20, 2, 32, 12),
-        20 => stands(38, 0x40, 2, 32, 12),
-        21 => stands(38, 0x80, 2, 32, 12),
-        22 => stands(38, 0x01, 256, 32, 21),
-        23 => stands(38, 0x01, 256, 32, 22),
-        _ => stands(38, 0x10, 8, 32, 31),
+    match item {
+        Item::Parallel => stands(0, 0x40, 2, 1, 0, 0),
+        Item::Multiplexer1 => stands(5, 0x01, 2, 1, 0, 0),
+        Item::Multiplexer2 => stands(5, 0x08, 2, 1, 0, 0),
+        Item::Multiplexer3 => stands(5, 0x40, 2, 1, 0, 0),
+        Item::ErrorCode => stands(6, 0x10, 16, 1, 0, 0),
+        Item::DirectionStop => stands(8, 0x80, 32, 1, 0, 0),
+        Item::DirectionStart => stands(8, 0x04, 32, 1, 0, 0),
+        Item::EnergyStop => stands(9, 0x20, 32, 1, 0, 0),
+        Item::EnergyStart => stands(9, 0x01, 32, 1, 0, 0),
+        Item::LastInvalidCode => stands(15, 0x01, 256, 1, 0, 0),
+        Item::IelEnable => stands(18, 0x80, 2, 1, 0, 0),
+        Item::ReducedCounter => stands(19, 0x01, 64, 1, 0, 0),
+        Item::Bias => stands(35, 0x01, 256, 1, 0, 0),
+        Item::Relay => stands(1, 0x40, 2, 1, 0, 0),
+        Item::Ground => stands(37, 0x01, 256, 8, 0, 0),
+        Item::StopStepping => stands(36, 0x10, 2, 4, 0, 0),
+        Item::StopLimit => stands(36, 0x10, 16, 4, 2, 0),
+        Item::StopLevel => stands(36, 0x10, 16, 4, 3, 0),
+        Item::Flap1 => stands(38, 0x10, 2, 32, 12, 0),
+        Item::Flap2 => stands(38, 0x20, 2, 32, 12, 0),
+        Item::Flap3 => stands(38, 0x40, 2, 32, 12, 0),
+        Item::IelClock => stands(38, 0x80, 2, 32, 12, 0),
+        Item::LastCheck => stands(38, 0x01, 256, 32, 21, 0),
+        Item::InvalidCount => stands(38, 0x01, 256, 32, 22, 0),
+        Item::HeadMask => stands(38, 0x10, 8, 32, 31, 0),
+        Item::LongCounter => stands(38, 0x01, 256, 32, 3, 3),
+        Item::FreeTime => stands(38, 0x01, 256, 32, 28, 1),
     }
 }
 
-// The number that stands in the item's word.
-fn field(frame: &[u8], row: usize) -> u32
-    requires { ⌜ (length (now frame) ≡ 40) × (row < 25) ⌝ }
-    ensures { λ r. ⌜ r ≡ fieldOf (now (frame .entry)) row ⌝ }
+// The number that stands in an item's word.
+fn field(frame: &[u8], p: Spot) -> u32
+    requires { ⌜ (length (now frame) ≡ 40) × (p .byte < 39) × (0 < p .div) × (0 < p .rem) ⌝ }
+    ensures { λ r. ⌜ r ≡ (getD (now (frame .entry)) (p .byte) 0 * 256 + getD (now (frame .entry)) (p .byte + 1) 0) / p .div % p .rem ⌝ }
 {
-    let p = spot_of(row);
     let at = p.byte;
-    let word = wide(frame[at]) * 256 + wide(frame[at + 1]);
+    let word = base::wide(frame[at]) * 256 + base::wide(frame[at + 1]);
     word / p.div % p.rem
 }
 
-// What 40 bytes tell of a plain item, one of the first 25.
-pub fn read(frame: &[u8], row: usize) -> Reading
-    ensures { λ r. ⌜ r ≡ readOf (now (frame .entry)) row ⌝ }
+// What 40 bytes tell of an item that one frame brings whole.
+pub fn read(frame: &[u8], item: Item) -> Reading
+    ensures { λ r. ⌜ r ≡ readOf (now (frame .entry)) (rowOf item) ⌝ }
 {
     if frame.len() != 40 {
         return Reading::Nothing;
     }
-    if 25 <= row {
+    let i = frame[0] % 32;
+    let p = spot_of(item);
+    if p.born != 0 {
         return Reading::Nothing;
     }
-    let i = frame[0] % 32;
-    let p = spot_of(row);
     if i % p.period != p.phase {
         return Reading::Nothing;
     }
-    Reading::Value(field(frame, row))
+    Reading::Value(field(frame, p))
 }
 
 // Are the bytes all b?

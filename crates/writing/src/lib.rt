@@ -39,9 +39,9 @@ fn byte_37(held: Held, index: u8) -> u8
 {
     let i = index % 4;
     match i {
-        0 => held.stepping % 2 * 0x10,
-        2 => held.limit % 16 * 0x10,
-        3 => held.level % 16 * 0x10,
+        0 => held.stopstepping % 2 * 0x10,
+        2 => held.stoplimit % 16 * 0x10,
+        3 => held.stoplevel % 16 * 0x10,
         _ => 0,
     }
 }
@@ -109,7 +109,7 @@ fn write(held: Held, index: u8, latch: u32, out: &mut [u8]) -> Wrote
         return Wrote::Refused(Refusal::NoRoom);
     }
     let f = frame_bytes(held, index, latch);
-    base::bytes::copy_in(&f, out);
+    bytes::copy(&f, out);
     Wrote::Done
 }
 

@@ -1,4 +1,4 @@
--- `desk::born` meets its contract: the value stays, the age is the one given.
+-- `desk::born` meets its contract: the number is as old as it is said to be.
 -- Assumes nothing.
 use mathlib.Core.Path.{sym, ap}
 use borrow.Author.Needs.{needs}

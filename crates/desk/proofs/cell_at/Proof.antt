@@ -1,15 +1,16 @@
--- `desk::cell_at` meets its contract: one of the 27 cells, and none beyond.
+-- `desk::cell_at` meets its contract: one of the cells, and none beyond.
 -- Assumes nothing.
 use mathlib.Core.Path.{_≡_, _∙_, sym}
 use native.Mathlib.Omega.{arith}
 use borrow.Author.Needs.{needs}
 use lib.ListN.{length, List·getD-eq-default}
+use Rattle.frame.specs.Items.{items}
 use Rattle.desk.specs.Desk.{blank}
 use Rattle.desk.proofs.Cells.{within}
 use Rattle.desk.proofs.cell_at.Statement.{statement}
 use Rattle.desk.proofs.cell_at.Tie as tie
 
-size : (s : tie.Start) → length (s .args .t1) ≡ 27
+size : (s : tie.Start) → length (s .args .t1) ≡ items
 size s = search needs
 
 returns : tie.Need-returns

@@ -1,4 +1,4 @@
--- `desk::fresh` meets its contract: 27 blank cells, nothing half read.
+-- `desk::fresh` meets its contract: every cell blank, nothing half read.
 -- Assumes nothing.
 use borrow.Author.Needs.{needs}
 use Rattle.desk.proofs.fresh.Statement.{statement}

@@ -3,7 +3,9 @@
 use mathlib.Core.Path.{_∙_}
 use denote.Ref.{now}
 use borrow.Author.Needs.{needs}
-use Rattle.desk.proofs.Readings.{half-is}
+use Rattle.desk.specs.Desk.{toldBy, readingOf}
+use Rattle.desk.proofs.Cells.{cells-same}
+use Rattle.desk.proofs.Readings.{reading-is, half-is}
 use Rattle.desk.proofs.heard.Statement.{statement}
 use Rattle.desk.proofs.heard.Tie as tie
 
@@ -11,7 +13,10 @@ returns : tie.Need-returns
 returns c =
     let s = c .before .before .before .before in
     let a = s .args in
-    rw (c .before .heard-cells .ensures, c .half-after .ensures ∙ half-is (a .desk .half) (now (a .frame)) (a .i) (a .b) (s .pre .1) (s .pre .2))
+    let f = now (a .frame) in
+    let half = a .desk .half in
+    let cells = cells-same (toldBy half f (a .i) (a .b)) (readingOf half f) (a .desk .cells) (reading-is half f (a .i) (a .b) (s .pre .0) (s .pre .1) (s .pre .2)) in
+    rw (c .before .cells-after .ensures ∙ cells, c .half-after .ensures ∙ half-is half f (a .i) (a .b) (s .pre .1) (s .pre .2))
 
 pub heard-spec : {M : Type 1} → statement M
 heard-spec = tie.close (tie.spec (λ c κs. search needs) (λ c κs. search needs) returns)

@@ -1,4 +1,4 @@
--- `desk::kept` meets its contract: a value is half read, and the next index must come.
+-- `desk::kept` meets its contract: the bytes are half read, and the next index must come.
 -- Assumes nothing.
 use mathlib.Core.Path.{sym, ap}
 use borrow.Author.Needs.{needs}

@@ -5,7 +5,7 @@ use Rattle.desk.proofs.spread_cell.Statement.{statement}
 use Rattle.desk.proofs.spread_cell.Tie as tie
 
 returns : tie.Need-returns
-returns c = rw (c .next .ensures, c .before .cell-at .ensures, c .before .before .spread .ensures)
+returns c = rw (c .next .ensures, c .before .cell-at .ensures, c .before .before .row-of .ensures, c .before .before .before .spread .ensures)
 
 pub spread-cell-spec : {M : Type 1} → statement M
-spread-cell-spec = tie.close (tie.spec (λ c κs. search needs) (λ c κs. search needs) (λ c κs. search needs) returns)
+spread-cell-spec = tie.close (tie.spec (λ c κs. search needs) (λ c κs. search needs) (λ c κs. search needs) (λ c κs. search needs) returns)

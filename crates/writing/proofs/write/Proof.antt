@@ -1,15 +1,22 @@
 -- `writing::write` meets its contract: no room, or the 40 bytes in front of what the slice held.
 -- Assumes nothing.
 use borrow.Author.Needs.{needs}
-use mathlib.Core.Path.{_≡_, sym}
+use mathlib.Core.Path.{_≡_, sym, ap, _∙_}
+use mathlib.Core.List.{List, _++_}
+use Prim.Native.Nat.{ℕ}
+use native.Mathlib.Nat.{le-of-eq}
 use native.Mathlib.Omega.{arith}
 use denote.Ref.{now}
-use lib.ListN.{length}
-use Rattle.base.proofs.Copy.{copied-whole}
+use lib.ListN.{length, take, drop}
+use lib.Seq.{take-all}
 use Rattle.frame.specs.Write.{frameOf}
 use Rattle.frame.proofs.Place.{short, room, frame-length}
 use Rattle.writing.proofs.write.Statement.{statement}
 use Rattle.writing.proofs.write.Tie as tie
+
+-- all of f, which is g, at the front of d
+copied : (f g d x : List ℕ) → f ≡ g → length g ≡ 40 → x ≡ take (length f) f ++ drop (length f) d → x ≡ g ++ drop 40 d
+copied f g d x e n q = q ∙ rw e (rw n (ap (λ (y : List ℕ). y ++ drop 40 d) (take-all 40 g (le-of-eq n))))
 
 returns : tie.Need-returns
 returns c =
@@ -23,8 +30,7 @@ returns-2 c =
     let f = frameOf (a .held) (a .index) (a .latch) in
     let n : length f ≡ 40 = frame-length (a .held) (a .index) (a .latch) in
     let r = room (a .held) (a .index) (a .latch) 0 (now (a .out)) (omega arith) in
-    let w = copied-whole f (now (a .out)) (omega (arith, n)) in
-    (sym (r .0), cc (c .before .before .copy-in .ensures, w, r .1, n))
+    (sym (r .0), copied _ f (now (a .out)) _ (c .before .before .before .before .before .frame-bytes .ensures) n (c .before .before .copy .ensures .1) ∙ sym (r .1))
 
 pub write-spec : {M : Type 1} → statement M
 write-spec =

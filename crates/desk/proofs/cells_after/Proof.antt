@@ -1,22 +1,22 @@
--- `desk::heard_cells` meets its contract: each cell is the one after what its row shows.
+-- `desk::cells_after` meets its contract: each cell is the one after what its row shows.
 -- Assumes nothing.
-use mathlib.Core.Path.{refl, _∙_}
+use mathlib.Core.Path.{refl}
 use Prim.Native.Nat.{ℕ}
 use denote.Ref.{now}
 use borrow.Author.Needs.{needs}
 use lib.ListN.{getD}
+use Rattle.frame.specs.Read.{isPlain}
 use Rattle.desk.specs.declared.Cell.{Cell}
-use Rattle.desk.specs.Desk.{blank, readingOf, cellAfter, cellsAfter}
-use Rattle.desk.proofs.Cells.{row, cells-same}
-use Rattle.desk.proofs.Readings.{codeShows, reading-is}
-use Rattle.desk.proofs.heard_cells.Statement.{statement}
-use Rattle.desk.proofs.heard_cells.Tie as tie
+use Rattle.desk.specs.Desk.{blank, toldBy, cellAfter, cellsAfter}
+use Rattle.desk.proofs.Cells.{row}
+use Rattle.desk.proofs.cells_after.Statement.{statement}
+use Rattle.desk.proofs.cells_after.Tie as tie
 
 abbrev g : tie.Start → ℕ → Cell
-g s k = let a = s .args in cellAfter (codeShows (a .half) (now (a .frame)) (a .i) (a .b) k) (getD (a .old) k blank)
+g s k = let a = s .args in cellAfter (toldBy (a .half) (now (a .frame)) (a .i) (a .b) k) (getD (a .old) k blank)
 
 returns : tie.Need-returns
-unfolding cellsAfter
+unfolding cellsAfter isPlain
 returns c =
     let c26 = c .before in
     let c25 = c26 .before in
@@ -45,7 +45,6 @@ returns c =
     let c2 = c3 .before in
     let c1 = c2 .before in
     let s = c1 .before .before in
-    let a = s .args in
     (row (g s) 0 (c1 .plain-cell .ensures)
     (row (g s) 1 (c2 .plain-cell2 .ensures)
     (row (g s) 2 (c3 .plain-cell3 .ensures)
@@ -73,11 +72,9 @@ returns c =
     (row (g s) 24 (c25 .plain-cell25 .ensures)
     (row (g s) 25 (c26 .spread-cell .ensures)
     (row (g s) 26 (c .spread-cell2 .ensures) refl)))))))))))))))))))))))))))
-    ∙ cells-same (codeShows (a .half) (now (a .frame)) (a .i) (a .b)) (readingOf (a .half) (now (a .frame))) (a .old)
-    (reading-is (a .half) (now (a .frame)) (a .i) (a .b) (s .pre .0) (s .pre .1) (s .pre .2))
 
-pub heard-cells-spec : {M : Type 1} → statement M
-heard-cells-spec =
+pub cells-after-spec : {M : Type 1} → statement M
+cells-after-spec =
     tie.close
     (tie.spec
     (λ c κs. search needs) (λ c κs. search needs) (λ c κs. search needs) (λ c κs. search needs) (λ c κs. search needs) (λ c κs. search needs) (λ c κs. search needs) (λ c κs. search needs) (λ c κs. search needs)
