@@ -6,14 +6,15 @@ use mathlib.Core.List.{List}
 use Prim.Native.Nat.{ℕ, _<_}
 use native.Mathlib.Omega.{arith}
 use lib.Dec.{eqb, ltb}
-use borrow.Author.Tests.{eqb-true, eqb-false, eq-eqb, lt-ltb, le-ltb}
+use lib.ListN.{getD-replicate}
+use Rattle.frame.specs.declared.Item.the-variants.{LongCounter, FreeTime}
+use borrow.Author.Tests.{eqb-true, eqb-false, eq-eqb, le-ltb}
 use Rattle.base.specs.Counts.{frames}
 use Rattle.base.proofs.Cases.{split}
-use Rattle.frame.specs.Items.{rowOf}
-use Rattle.frame.specs.Read.{indexOf, fieldOf, carries, bornOf}
+use Rattle.frame.specs.Items.{items, rowOf}
+use Rattle.frame.specs.Read.{indexOf, fieldOf, isPlain, carries, phaseOf, bornOf}
 use Rattle.frame.specs.Laws.{byte39}
 use Rattle.frame.proofs.Rows.{row-lt}
-use Rattle.frame.proofs.Each.{each, _&_, end}
 use Rattle.frame.proofs.Came.{no-other}
 use Rattle.desk.specs.declared.Desk.{Desk}
 use Rattle.desk.specs.declared.Half.{Half}
@@ -22,9 +23,9 @@ use Rattle.desk.specs.declared.Shown.{Shown}
 use Rattle.desk.specs.declared.Shown.the-variants.{Unknown, Known}
 use Rattle.desk.specs.declared.Received.{Received}
 use Rattle.desk.specs.declared.Answer.the-variants.{Heard}
-use Rattle.desk.specs.Desk.{agedOf, latestOf, joined, spreadOf, readingOf, keptAt, halfAt, halfAfter, freshDesk, shows, heardOf, slotOf}
+use Rattle.desk.specs.Desk.{agedOf, latestOf, joined, spreadOf, readingOf, keptAt, halfAt, halfAfter, blank, shownBy, freshDesk, shows, heardOf, slotOf}
 use Rattle.desk.specs.Laws.{answered}
-use Rattle.desk.proofs.Readings.{spread-is}
+use Rattle.desk.proofs.Readings.{spread-is, once}
 use Rattle.desk.proofs.Laws.{laws as desk-laws}
 use Rattle.demands.specs.Outfit.{proved}
 use Rattle.demands.specs.AnyDesk.{IsWhole, older, completed, replaced, goesOn, halfBy, SlotLaws}
@@ -34,7 +35,7 @@ heard-is : (d : Desk) (f : List ℕ) → IsWhole f → slotOf d f ≡ answered H
 heard-is d f w = desk-laws .whole d f (w .forty) (w .notC0) (w .notFF)
 
 -- what is shown after it, row by row
-after-it : (d : Desk) (f : List ℕ) (k : ℕ) → k < 27 → IsWhole f → shows (slotOf d f .desk) k ≡ latestOf (readingOf (d .half) f k) (shows d k)
+after-it : (d : Desk) (f : List ℕ) (k : ℕ) → k < items → IsWhole f → shows (slotOf d f .desk) k ≡ latestOf (readingOf (d .half) f k) (shows d k)
 after-it d f k h w = ap (λ (t : Received). shows (t .desk) k) (heard-is d f w) ∙ desk-laws .at-frame d f k h
 
 older-is : (s : Shown) → agedOf s ≡ older s
@@ -45,9 +46,9 @@ replaced-is : (s t : Shown) → latestOf s t ≡ replaced s t
 replaced-is (Known v a) t = refl
 replaced-is Unknown t = older-is t
 
-plain-reads : (half : Half) (f : List ℕ) (k : ℕ) → k < 25 → carries k (indexOf f) ≡ true → readingOf half f k ≡ Known (fieldOf f k) (frames 0)
+plain-reads : (half : Half) (f : List ℕ) (k : ℕ) → isPlain k ≡ true → carries k (indexOf f) ≡ true → readingOf half f k ≡ Known (fieldOf f k) (frames 0)
 unfolding readingOf
-plain-reads half f k h c = rw (c, lt-ltb k 25 h)
+plain-reads half f k h c = rw (c, h)
 
 not-carried : (half : Half) (f : List ℕ) (k : ℕ) → carries k (indexOf f) ≡ false → readingOf half f k ≡ Unknown
 unfolding readingOf
@@ -83,7 +84,7 @@ unfolding halfAfter
 after-half d f w = ap (λ (t : Received). t .desk .half) (heard-is d f w) ∙ half-is (d .half) (indexOf f) (byte39 f)
 
 -- a spread number after a whole frame
-spread-after : (d : Desk) (f : List ℕ) (k last : ℕ) → k < 27 → IsWhole f
+spread-after : (d : Desk) (f : List ℕ) (k last : ℕ) → k < items → IsWhole f
     → readingOf (d .half) f k ≡ spreadOf (d .half) (indexOf f) (byte39 f) last (frames (bornOf k)) → eqb last 0 ≡ false → eqb last 27 ≡ false
     → shows (slotOf d f .desk) k ≡ replaced (completed (d .half) last (bornOf k) f) (shows d k)
 spread-after d f k last h w e x y =
@@ -91,9 +92,22 @@ spread-after d f k last h w e x y =
     ∙ ap (λ (s : Shown). latestOf s (shows d k)) (e ∙ completed-is (d .half) f last (bornOf k) x y)
     ∙ replaced-is (completed (d .half) last (bornOf k) f) (shows d k)
 
+-- the two rows of the spread numbers
+not-long : isPlain (rowOf LongCounter) ≡ false
+unfolding isPlain
+not-long = refl
+
+not-free : isPlain (rowOf FreeTime) ≡ false
+unfolding isPlain
+not-free = refl
+
+spread-reads : (half : Half) (f : List ℕ) (k : ℕ) → k < items → isPlain k ≡ false
+    → readingOf half f k ≡ spreadOf half (indexOf f) (byte39 f) (phaseOf k) (frames (bornOf k))
+spread-reads half f k h n = sym (spread-is half f (indexOf f) (byte39 f) k refl refl (once k h n) n)
+
 -- a fresh desk: each of its cells is blank
-fresh-shows : (k : ℕ) → k < 27 → shows freshDesk k ≡ Unknown
-fresh-shows = each (λ k. shows freshDesk k ≡ Unknown) 27 (refl & refl & refl & refl & refl & refl & refl & refl & refl & refl & refl & refl & refl & refl & refl & refl & refl & refl & refl & refl & refl & refl & refl & refl & refl & refl & refl & end)
+fresh-shows : (k : ℕ) → k < items → shows freshDesk k ≡ Unknown
+fresh-shows k h = ap shownBy (getD-replicate items k blank blank h)
 
 pub slot-laws : SlotLaws proved
 slot-laws =
@@ -106,8 +120,8 @@ slot-laws =
           after-it d f (rowOf item) (row-lt item) w
           ∙ ap (λ (s : Shown). latestOf s (shows d (rowOf item))) (not-carried (d .half) f (rowOf item) c)
           ∙ older-is (shows d (rowOf item));
-      long = λ d f w. spread-after d f 25 3 (omega arith) w (sym (spread-is (d .half) f (indexOf f) (byte39 f) 25 25 refl refl refl refl refl)) refl refl;
-      free = λ d f w. spread-after d f 26 28 (omega arith) w (sym (spread-is (d .half) f (indexOf f) (byte39 f) 26 26 refl refl refl refl refl)) refl refl;
+      long = λ d f w. spread-after d f (rowOf LongCounter) 3 (omega arith) w (spread-reads (d .half) f (rowOf LongCounter) (omega arith) not-long) refl refl;
+      free = λ d f w. spread-after d f (rowOf FreeTime) 28 (omega arith) w (spread-reads (d .half) f (rowOf FreeTime) (omega arith) not-free) refl refl;
       half = after-half;
       miss = λ d item. desk-laws .at-miss d (rowOf item) (row-lt item) ∙ older-is (shows d (rowOf item));
       miss-half = λ d. refl;

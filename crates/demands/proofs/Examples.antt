@@ -8,7 +8,7 @@ use lib.ListN.{replicate}
 use Rattle.base.specs.Counts.{frames}
 use Rattle.frame.specs.declared.Item.the-variants.{LongCounter}
 use Rattle.frame.specs.Write.{quarterOf, groundAt, muxOf, frameOf}
-use Rattle.frame.specs.Read.{allAre, arrivedOf}
+use Rattle.frame.specs.Read.{allAre, arrivedOf, isPlain}
 use Rattle.desk.specs.declared.Shown.{Shown}
 use Rattle.desk.specs.declared.Shown.the-variants.{Unknown, Known}
 use Rattle.desk.specs.Desk.{readingOf, halfAfter, cellsAfter, slotOf}
@@ -33,7 +33,7 @@ see ss = proved .look (reached proved ss .desk) LongCounter
 
 -- 34 whole slots are too few: the counter shown is still the one of before the spin
 pub too-few : TooFew proved
-unfolding steps slotOf arrivedOf allAre cellsAfter readingOf halfAfter frameOf muxOf quarterOf groundAt
+unfolding steps slotOf arrivedOf allAre cellsAfter readingOf isPlain halfAfter frameOf muxOf quarterOf groundAt
 too-few =
     record {
       run = built ∷ came ∷ alone spin ∷ [];
@@ -48,15 +48,15 @@ too-few =
 
 -- one more, and it is the present one
 pub just-enough : see (whole ++ (alone spin ∷ times 35 whole)) ≡ Known 1 (frames 3)
-unfolding steps slotOf arrivedOf allAre cellsAfter readingOf halfAfter frameOf muxOf quarterOf groundAt
+unfolding steps slotOf arrivedOf allAre cellsAfter readingOf isPlain halfAfter frameOf muxOf quarterOf groundAt
 just-enough = refl
 
 -- the counter is the one latched at frame 0, three slots old when it is whole
 pub latched : see (replicate 5 (alone spin) ++ (whole ++ (alone spin ∷ alone spin ∷ times 3 whole))) ≡ Known 5 (frames 3)
-unfolding steps slotOf arrivedOf allAre cellsAfter readingOf halfAfter frameOf muxOf quarterOf groundAt
+unfolding steps slotOf arrivedOf allAre cellsAfter readingOf isPlain halfAfter frameOf muxOf quarterOf groundAt
 latched = refl
 
 -- bytes 0, 1 of one round are not joined to 2, 3 of the next
 pub not-joined : see (alone spin ∷ (times 2 whole ++ (times 32 missed ++ times 2 whole))) ≡ Unknown
-unfolding steps slotOf arrivedOf allAre cellsAfter readingOf halfAfter frameOf muxOf quarterOf groundAt
+unfolding steps slotOf arrivedOf allAre cellsAfter readingOf isPlain halfAfter frameOf muxOf quarterOf groundAt
 not-joined = refl

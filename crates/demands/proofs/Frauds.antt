@@ -9,7 +9,7 @@ use Rattle.judge.specs.declared.Verdict.{Verdict}
 use Rattle.judge.specs.declared.Refusal.the-variants.{StrayWord}
 use Rattle.frame.specs.declared.Item.the-variants.{Bias}
 use Rattle.frame.specs.Write.{quarterOf, groundAt, muxOf, frameOf}
-use Rattle.frame.specs.Read.{allAre, arrivedOf}
+use Rattle.frame.specs.Read.{allAre, arrivedOf, isPlain}
 use Rattle.desk.specs.declared.Answer.{Answer}
 use Rattle.desk.specs.declared.Answer.the-variants as desk
 use Rattle.desk.specs.declared.Received.{Received}
@@ -96,22 +96,22 @@ not-idler d = let e : _≡_ {A = ℕ} 0 1 = ap knownOf (d .round [] refl all ref
 
 -- a frame, a miss, and nothing is shown
 not-blanker : Demand3For blanker → ⊥
-unfolding steps slotOf arrivedOf allAre cellsAfter readingOf halfAfter frameOf muxOf quarterOf groundAt
+unfolding steps slotOf arrivedOf allAre cellsAfter readingOf isPlain halfAfter frameOf muxOf quarterOf groundAt
 not-blanker d = let e : _≡_ {A = ℕ} 0 1 = ap knownOf (one-desk _ _ _ _ d thenMissed Bias) in omega arith
 
 -- a frame, a new bias, a frame, and the old one is shown
 not-hoarder : Demand3For hoarder → ⊥
-unfolding steps slotOf arrivedOf allAre cellsAfter readingOf halfAfter frameOf muxOf quarterOf groundAt setOf
+unfolding steps slotOf arrivedOf allAre cellsAfter readingOf isPlain halfAfter frameOf muxOf quarterOf groundAt setOf
 not-hoarder d = let e : _≡_ {A = ℕ} 0 1 = ap valueOf (one-desk _ _ _ _ d (built ∷ came ∷ renewed) Bias) in omega arith
 
 -- a whole round, a new bias, a frame, and the old one is shown
 not-pretender : Demand3For pretender → ⊥
-unfolding steps slotOf arrivedOf allAre cellsAfter readingOf halfAfter frameOf muxOf quarterOf groundAt setOf
+unfolding steps slotOf arrivedOf allAre cellsAfter readingOf isPlain halfAfter frameOf muxOf quarterOf groundAt setOf
 not-pretender d = let e : _≡_ {A = ℕ} 0 1 = ap valueOf (one-desk _ _ _ _ d (beats all ++ renewed) Bias) in omega arith
 
 -- a frame, a miss, and the bias is still shown as new
 not-flatterer : Demand3For flatterer → ⊥
-unfolding steps slotOf arrivedOf allAre cellsAfter readingOf halfAfter frameOf muxOf quarterOf groundAt
+unfolding steps slotOf arrivedOf allAre cellsAfter readingOf isPlain halfAfter frameOf muxOf quarterOf groundAt
 not-flatterer d = let e : _≡_ {A = ℕ} 0 1 = ap ageOf (one-desk _ _ _ _ d thenMissed Bias) in omega arith
 
 -- fill is told as heard
@@ -137,9 +137,9 @@ foreign-whole =
 
 -- it carries the bias, which is not shown
 not-snob : Demand2For snob → ⊥
-unfolding slotOf arrivedOf allAre cellsAfter readingOf halfAfter
+unfolding slotOf arrivedOf allAre cellsAfter readingOf isPlain halfAfter
 not-snob d =
-    let e : _≡_ {A = ℕ} 0 1 = ap knownOf (d .desk .plain freshDesk foreign Bias foreign-whole (omega arith) refl) in
+    let e : _≡_ {A = ℕ} 0 1 = ap knownOf (d .desk .plain freshDesk foreign Bias foreign-whole refl refl) in
     omega arith
 
 pub caught : Caught

@@ -1,23 +1,28 @@
 -- What is half read, computed from the history; what the rig has latched; and what a frame then brings.
 -- Assumes nothing.
 use mathlib.Core.Path.{_≡_, refl, _∙_, sym, ap, subst}
-use mathlib.Core.Bool.{Bool, true, false}
+use mathlib.Core.Bool.{Bool, true, false, _||_}
 use mathlib.Core.List.{List, [], _∷_}
 use Prim.Native.Nat.{ℕ, zero, suc, _+_, _*_, _/_, _%_, _-_, _<_, _≤_}
 use native.Mathlib.Omega.{arith}
 use native.Mathlib.Decide.{ℕ-discrete}
 use native.Mathlib.Nat.{mod-eq-of-lt}
-use lib.Dec.{eqb, ltb, eqb→eq}
+use lib.Dec.{eqb, ltb}
 use lib.ListN.{getD}
-use borrow.Author.Tests.{eq-eqb, ne-eqb, eqb-true, ltb-true, ltb-false}
+use borrow.Author.Tests.{eq-eqb, ne-eqb, eqb-true, ltb-true}
 use Rattle.base.specs.Pick.{pick}
 use Rattle.base.specs.Counts.{frames}
-use Rattle.base.proofs.Table.{below}
-use Rattle.frame.specs.Read.{carries, bornOf, remOf, indexOf, fieldOf}
+use Rattle.base.proofs.Cases.{split}
+use Rattle.frame.specs.declared.Item.the-variants.{LongCounter, FreeTime}
+use Rattle.frame.specs.Items.{items, rowOf}
+use Rattle.frame.specs.Read.{carries, bornOf, remOf, isPlain, indexOf, fieldOf}
 use Rattle.frame.specs.Write.{latchOf, muxOf, frameOf}
+use Rattle.frame.proofs.Rows.{plain-born, spread-rows}
 use Rattle.frame.proofs.Back.{field-back}
 use Rattle.desk.specs.declared.Shown.{Shown}
 use Rattle.desk.specs.declared.Shown.the-variants.{Unknown, Known}
+use Rattle.desk.specs.declared.SoFar.{SoFar}
+use Rattle.desk.specs.declared.SoFar.the-variants.{None, Bytes}
 use Rattle.desk.specs.declared.Half.{Half}
 use Rattle.desk.specs.declared.Half.the-variants.{Nothing, Part}
 use Rattle.desk.specs.Desk.{grownOf, joined, keptAt, partly, halfAt, halfAfter, readingOf, bornAt}
@@ -32,7 +37,7 @@ pub record Good (r : Rig) : Type 0 where
   pub latch : r .sending .latch < 0x100000000
   pub long : r .edbs .0 < 0x100000000
   pub free : r .panel .free < 0x10000
-  pub widths : (k : ℕ) → k < 25 → held r k < remOf k
+  pub widths : (k : ℕ) → isPlain k ≡ true → held r k < remOf k
 
 -- the number that frame i belongs to; how much of it the frames up to i have brought; how many came before i
 abbrev pub spreadOf : ℕ → Rig → ℕ
@@ -74,16 +79,16 @@ on-partly P p0 p1 p2 p27 j e = go (ltb j 3) refl
 
     go : (b : Bool) → ltb j 3 ≡ b → P j
     go true t = small j (ltb-true _ _ t)
-    go false t = subst P (sym (eqb-true j 27 (sym (ap (λ (b : Bool). pick b true (eqb j 27)) t) ∙ e))) p27
+    go false t = subst P (sym (eqb-true j 27 (sym (ap (λ (b : Bool). b || eqb j 27) t) ∙ e))) p27
 
 back-other : (n i : ℕ) (r : Rig) (h : List Slot) → eqb (r .sending .next) i ≡ false → back n i (whole r ∷ h) ≡ broken
 unfolding back
 back-other zero i r h e = rw e
 back-other (suc n) i r h e = rw e
 
-abbrev grewFrom : ℕ → ℕ → Run → Shown
-grewFrom j b broken = Unknown
-grewFrom j b (from r) = Known (partOf j r % 0x1000000 * 256 + b) (frames 0)
+abbrev grewFrom : ℕ → ℕ → Run → SoFar
+grewFrom j b broken = None
+grewFrom j b (from r) = Bytes (partOf j r % 0x1000000 * 256 + b)
 
 same : (j b : ℕ) (x : Run) → joined (halfFrom j x) (j + 1) b ≡ grewFrom j b x
 same j b broken = refl
@@ -93,7 +98,7 @@ same j b (from r) = rw (eq-eqb (j + 1) (j + 1) refl)
 here : (f : ℕ → Run) (i j b : ℕ) → i ≡ j → partly j ≡ true → joined (pick (partly i) (halfFrom i (f i)) Nothing) (j + 1) b ≡ grewFrom j b (f j)
 here f i j b q e = rw (q, e) (same j b (f j))
 
-other : (p : Bool) (i j b : ℕ) (x : Run) → ¬ (i ≡ j) → joined (pick p (halfFrom i x) Nothing) (j + 1) b ≡ Unknown
+other : (p : Bool) (i j b : ℕ) (x : Run) → ¬ (i ≡ j) → joined (pick p (halfFrom i x) Nothing) (j + 1) b ≡ None
 other false i j b x q = refl
 other true i j b broken q = refl
 other true i j b (from r) q = rw (ne-eqb (i + 1) (j + 1) (λ e. q (omega arith)))
@@ -109,19 +114,19 @@ join j b (whole r ∷ h) e =
     ]
 
 -- what frame i makes of the number it belongs to
-abbrev grew : ℕ → Run → Shown
-grew i broken = Unknown
-grew i (from r) = Known (partOf i r) (frames 0)
+abbrev grew : ℕ → Run → SoFar
+grew i broken = None
+grew i (from r) = Bytes (partOf i r)
 
 kept-grew : (i : ℕ) (x : Run) → keptAt i (grew i x) ≡ halfFrom i x
 kept-grew i broken = refl
 kept-grew i (from r) = refl
 
-born-grew-3 : (x : Run) → bornAt (frames 3) (grew 3 x) ≡ known 25 x
+born-grew-3 : (x : Run) → bornAt (frames 3) (grew 3 x) ≡ known (rowOf LongCounter) x
 born-grew-3 broken = refl
 born-grew-3 (from r) = refl
 
-born-grew-28 : (x : Run) → bornAt (frames 1) (grew 28 x) ≡ known 26 x
+born-grew-28 : (x : Run) → bornAt (frames 1) (grew 28 x) ≡ known (rowOf FreeTime) x
 born-grew-28 broken = refl
 born-grew-28 (from r) = refl
 
@@ -132,9 +137,6 @@ longIn (from r) = r .edbs .0
 abbrev freeIn : Run → ℕ
 freeIn broken = 0
 freeIn (from r) = r .panel .free
-
-born-none : (k : ℕ) → k < 25 → bornOf k ≡ 0
-born-none k l = eqb→eq _ _ (below (λ (j : ℕ). eqb (bornOf j) 0) 25 tt k l)
 
 -- the next byte of a number of which the first bytes are there
 module _ (r : Rig) (h : List Slot) (g : Good r) (l : Linked r h) where
@@ -152,7 +154,7 @@ module _ (r : Rig) (h : List Slot) (g : Good r) (l : Linked r h) where
     where
       go : (x : Run) → back (moreOf j) j h ≡ x → grewFrom j b x ≡ grew (j + 1) x
       go broken q = refl
-      go (from r0) q = ap (λ (v : ℕ). Known v (frames 0)) (a r0 (l j e n r0 q))
+      go (from r0) q = ap Bytes (a r0 (l j e n r0 q))
 
   abbrev Grows : ℕ → Type 0
   Grows i = r .sending .next ≡ i → grownOf (halfOf h) i (M i) ≡ grew i (back (moreOf i) i (whole r ∷ h))
@@ -161,13 +163,13 @@ module _ (r : Rig) (h : List Slot) (g : Good r) (l : Linked r h) where
   unfolding muxOf
   grow-0 n =
       let e : r .edbs .0 / 256 / 256 / 256 % 256 ≡ r .edbs .0 / 256 / 256 / 256 = omega (arith, g .long) in
-      ap (λ (v : ℕ). Known v (frames 0)) e ∙ sym (ap (grew 0) (back-one 0 r h n))
+      ap Bytes e ∙ sym (ap (grew 0) (back-one 0 r h n))
 
   grow-27 : Grows 27
   unfolding muxOf
   grow-27 n =
       let e : r .panel .free / 256 % 256 ≡ r .panel .free / 256 = omega (arith, g .free) in
-      ap (λ (v : ℕ). Known v (frames 0)) e ∙ sym (ap (grew 27) (back-one 27 r h n))
+      ap Bytes e ∙ sym (ap (grew 27) (back-one 27 r h n))
 
   grow-1 : Grows 1
   unfolding muxOf
@@ -227,10 +229,10 @@ module _ (r : Rig) (h : List Slot) (g : Good r) (l : Linked r h) where
   -- what the frame shows of each item
   abbrev Reads : ℕ → ℕ → Type 0
   Reads k i =
-      pick (ltb k 25) (Known (fieldOf (nextFrame r) k) (frames 0)) (bornAt (frames (bornOf k)) (grownOf (halfOf h) i (M i)))
+      pick (isPlain k) (Known (fieldOf (nextFrame r) k) (frames 0)) (bornAt (frames (bornOf k)) (grownOf (halfOf h) i (M i)))
       ≡ known k (back (bornOf k) i (whole r ∷ h))
 
-  plain : (k : ℕ) → ltb k 25 ≡ true → bornOf k ≡ 0 → fieldOf (nextFrame r) k ≡ held r k → Reads k (r .sending .next)
+  plain : (k : ℕ) → isPlain k ≡ true → bornOf k ≡ 0 → fieldOf (nextFrame r) k ≡ held r k → Reads k (r .sending .next)
   plain k t b f = rw (t, f, b, back-one (r .sending .next) r h refl, b)
 
   -- a number that is spread, at its last frame i
@@ -238,33 +240,30 @@ module _ (r : Rig) (h : List Slot) (g : Good r) (l : Linked r h) where
   spread k i n e = subst (Reads k) (sym n) e
 
   -- the item reads back modulo its width, and fits it
-  field : (k : ℕ) → k < 25 → carries k (r .sending .next) ≡ true → fieldOf (nextFrame r) k ≡ held r k
+  field : (k : ℕ) → isPlain k ≡ true → carries k (r .sending .next) ≡ true → fieldOf (nextFrame r) k ≡ held r k
   field k b e =
       field-back (heldOf r) (r .sending .next) (nextLatch r) k b (eqb-true _ _ e) ∙ mod-eq-of-lt (g .widths k b)
 
-  value : (k : ℕ) → k < 27 → carries k (r .sending .next) ≡ true → Reads k (r .sending .next)
-  value k b e =
-      go (ltb k 25) refl
-    where
-      long : carries 25 (r .sending .next) ≡ true → Reads 25 (r .sending .next)
-      long e = let n : r .sending .next ≡ 3 = at 3 e in spread 25 3 n (ap (bornAt (frames 3)) (grow-3 n) ∙ born-grew-3 (back 3 3 (whole r ∷ h)))
+  abbrev Carried : ℕ → Type 0
+  Carried k = carries k (r .sending .next) ≡ true → Reads k (r .sending .next)
 
-      free : carries 26 (r .sending .next) ≡ true → Reads 26 (r .sending .next)
-      free e = let n : r .sending .next ≡ 28 = at 28 e in spread 26 28 n (ap (bornAt (frames 1)) (grow-28 n) ∙ born-grew-28 (back 1 28 (whole r ∷ h)))
+  long : Carried (rowOf LongCounter)
+  unfolding isPlain
+  long e =
+      let n : r .sending .next ≡ 3 = at 3 e in
+      spread (rowOf LongCounter) 3 n (ap (bornAt (frames 3)) (grow-3 n) ∙ born-grew-3 (back 3 3 (whole r ∷ h)))
 
-      P : ℕ → Type 0
-      P k = carries k (r .sending .next) ≡ true → Reads k (r .sending .next)
+  free : Carried (rowOf FreeTime)
+  unfolding isPlain
+  free e =
+      let n : r .sending .next ≡ 28 = at 28 e in
+      spread (rowOf FreeTime) 28 n (ap (bornAt (frames 1)) (grow-28 n) ∙ born-grew-28 (back 1 28 (whole r ∷ h)))
 
-      go : (t : Bool) → ltb k 25 ≡ t → Reads k (r .sending .next)
-      go true t = plain k t (born-none k (ltb-true k 25 t)) (field k (ltb-true k 25 t) e)
-      go false t =
-          elim (ℕ-discrete k 25) [
-            | yes q ↦ subst P (sym q) long e
-            | no q ↦ (let m : 25 ≤ k = ltb-false k 25 t in let q2 : k ≡ 26 = omega arith in subst P (sym q2) free e)
-          ]
+  value : (k : ℕ) → k < items → Carried k
+  value k b e = split (isPlain k) (λ t. plain k t (plain-born k t) (field k t e)) (λ t. spread-rows Carried long free k b t e)
 
   -- a whole frame shows of each item what the history says that it brings
-  pub reads : (k : ℕ) → k < 27 → readingOf (halfOf h) (nextFrame r) k ≡ brought k (whole r ∷ h)
+  pub reads : (k : ℕ) → k < items → readingOf (halfOf h) (nextFrame r) k ≡ brought k (whole r ∷ h)
   unfolding readingOf brought
   reads k b =
       ap (λ (i : ℕ). pick (carries k i) (seen i (getD (nextFrame r) 39 0)) Unknown) index
@@ -272,7 +271,7 @@ module _ (r : Rig) (h : List Slot) (g : Good r) (l : Linked r h) where
       ∙ go (carries k (r .sending .next)) refl
     where
       seen : ℕ → ℕ → Shown
-      seen i x = pick (ltb k 25) (Known (fieldOf (nextFrame r) k) (frames 0)) (bornAt (frames (bornOf k)) (grownOf (halfOf h) i x))
+      seen i x = pick (isPlain k) (Known (fieldOf (nextFrame r) k) (frames 0)) (bornAt (frames (bornOf k)) (grownOf (halfOf h) i x))
 
       go : (c : Bool) → carries k (r .sending .next) ≡ c
           → pick c (seen (r .sending .next) (M (r .sending .next))) Unknown ≡ pick c (known k (back (bornOf k) (r .sending .next) (whole r ∷ h))) Unknown

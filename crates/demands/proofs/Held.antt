@@ -14,7 +14,7 @@ use Rattle.supply.specs.Rules.{relayed, targeted, limited, switched}
 use Rattle.crc.specs.Crc.{shift, crcFrom, crcOf}
 use Rattle.judge.specs.Commands.{carried, modeCmd, singleOf, countedOf, blockOf}
 use Rattle.frame.specs.declared.Item.{Item}
-use Rattle.frame.specs.Items.{rowOf, heldAt}
+use Rattle.frame.specs.Items.{items, rowOf, heldAt}
 use Rattle.frame.specs.Write.{quarterOf, groundAt, muxOf, frameOf}
 use Rattle.frame.proofs.Rows.{row-lt}
 use Rattle.rig.specs.declared.Rig.{Rig}
@@ -31,12 +31,12 @@ held r k = heldAt (heldOf r) k
 
 -- a row of which every item and every byte is computed
 abbrev Computed : Row → Type 0
-Computed r = T (allBelow (λ k. eqb (held (doing ours startRig (r .steps)) k) (says r k)) 27) × Bytes proved (doing ours startRig (r .steps)) (r .bytes)
+Computed r = T (allBelow (λ k. eqb (held (doing ours startRig (r .steps)) k) (says r k)) items) × Bytes proved (doing ours startRig (r .steps)) (r .bytes)
 
 true-row : (r : Row) → Computed r → True proved held r
 true-row r t =
     record {
-      items = λ item. eqb→eq _ _ (below (λ k. eqb (held (doing ours startRig (r .steps)) k) (says r k)) 27 (t .0) (rowOf item) (row-lt item));
+      items = λ item. eqb→eq _ _ (below (λ k. eqb (held (doing ours startRig (r .steps)) k) (says r k)) items (t .0) (rowOf item) (row-lt item));
       frames = t .1;
     }
 
@@ -66,10 +66,10 @@ second : (a b : Bool) → a ≡ false → T (a || b) → b ≡ true
 second true b e t = absurd (true≢false e)
 second false b e t = is-true b t
 
-any-two : (i j : ℕ) → i < 27 → j < 27 → (i ≡ j → ⊥) → apart table i j ≡ true
+any-two : (i j : ℕ) → i < items → j < items → (i ≡ j → ⊥) → apart table i j ≡ true
 unfolding apart-or-same
 any-two i j h k ne =
-    second (eqb i j) (apart table i j) (ne-eqb i j ne) (below (λ b. apart-or-same i b) 27 (below (λ a. allBelow (λ b. apart-or-same a b) 27) 27 tt i h) j k)
+    second (eqb i j) (apart table i j) (ne-eqb i j ne) (below (λ b. apart-or-same i b) items (below (λ a. allBelow (λ b. apart-or-same a b) items) items tt i h) j k)
 
 -- at a row that tells two items apart, what is held cannot be swapped
 parted : (r : Row) (i j : ℕ) → parts r i j ≡ true → says r i ≡ says r j → ⊥
@@ -91,7 +91,7 @@ module _ (o : Outfit) (held : Rig → ℕ → ℕ) (i j : Item) (ne : rowOf i �
 pub settles : Settles
 settles =
     record {
-      all = λ item. is-true _ (below (λ k. stands table k) 27 tt (rowOf item) (row-lt item));
+      all = λ item. is-true _ (below (λ k. stands table k) items tt (rowOf item) (row-lt item));
       any = λ i j ne. any-two (rowOf i) (rowOf j) (row-lt i) (row-lt j) ne;
       no-swap = λ o held i j ne t u. none-swapped o held i j ne table (any-two (rowOf i) (rowOf j) (row-lt i) (row-lt j) ne) t u;
     }

@@ -6,6 +6,7 @@ use Prim.Native.Nat.{ℕ, _+_, _<_}
 use native.Mathlib.Omega.{arith}
 use lib.ListN.{length, getD-replicate}
 use borrow.Author.Tests.{lt-ltb}
+use Rattle.frame.specs.Items.{items}
 use Rattle.desk.specs.declared.Shown.{Shown}
 use Rattle.desk.specs.declared.Desk.{Desk}
 use Rattle.desk.specs.declared.Received.{Received}
@@ -59,7 +60,7 @@ pub record Inv (w : World) : Type 0 where
   pub made : Made (w .rig)
   pub linked : Linked (w .rig) (w .past)
   pub half : w .desk .half ≡ halfOf (w .past)
-  pub shown : (k : ℕ) → k < 27 → shows (w .desk) k ≡ shownOf k (w .past)
+  pub shown : (k : ℕ) → k < items → shows (w .desk) k ≡ shownOf k (w .past)
 
 -- the desk that bytes in a slot leave: a built frame is heard, fill is a miss, bytes of another length change nothing
 abbrev deskOf : Received → Desk
@@ -78,9 +79,9 @@ torn-stays : (d : Desk) (f : List ℕ) → (length f ≡ 40 → ⊥) → slotOf 
 torn-stays d f n = ap deskOf (desk-laws .refused d f n)
 
 -- what a desk n shows after a slot that by itself shows f k of item k
-slot-step : (f : ℕ → Shown) (d n : Desk) (h : List Slot) (s : Slot) → ((k : ℕ) → k < 27 → shows n k ≡ latestOf (f k) (shows d k))
-    → ((k : ℕ) → k < 27 → shows d k ≡ shownOf k h) → ((k : ℕ) → k < 27 → f k ≡ brought k (s ∷ h))
-    → (k : ℕ) → k < 27 → shows n k ≡ shownOf k (s ∷ h)
+slot-step : (f : ℕ → Shown) (d n : Desk) (h : List Slot) (s : Slot) → ((k : ℕ) → k < items → shows n k ≡ latestOf (f k) (shows d k))
+    → ((k : ℕ) → k < items → shows d k ≡ shownOf k h) → ((k : ℕ) → k < items → f k ≡ brought k (s ∷ h))
+    → (k : ℕ) → k < items → shows n k ≡ shownOf k (s ∷ h)
 unfolding shownOf
 slot-step f d n h s a e b k l = a k l ∙ rw (b k l, e k l)
 
@@ -167,12 +168,12 @@ begin =
       made = record { by = []; is = refl };
       half = refl;
       linked = λ j p m r0 q. absurd (omega (arith, m));
-      shown = λ k l. ap shownBy (getD-replicate 27 k blank blank l);
+      shown = λ k l. ap shownBy (getD-replicate items k blank blank l);
     }
 
 pub after : (es : List Event) → Inv (run proved (start proved) es)
 after es = runs (start proved) es begin
 
 -- after any run of events the desk shows of each item what the history of slots says
-pub desk-shows : (es : List Event) (k : ℕ) → k < 27 → shows (run proved (start proved) es .desk) k ≡ shownOf k (run proved (start proved) es .past)
+pub desk-shows : (es : List Event) (k : ℕ) → k < items → shows (run proved (start proved) es .desk) k ≡ shownOf k (run proved (start proved) es .past)
 desk-shows es k l = after es .shown k l

@@ -17,10 +17,11 @@ use Rattle.supply.specs.declared.Supply.{Supply}
 use Rattle.supply.specs.Rules.{withLevel, stepped}
 use Rattle.supply.specs.Laws.{SpinMoves}
 use Rattle.frame.specs.declared.Item.{Item}
-use Rattle.frame.specs.declared.Item.the-variants.{Parallel, Multiplexer1, Multiplexer2, Multiplexer3, ErrorCode, DirectionStop, DirectionStart, EnergyStop, EnergyStart, LastInvalidCode, IelEnable, ReducedCounter, Bias, Relay, Ground, Stepping, Limit, Level, Flap1, Flap2, Flap3, IelClock, LastCheck, InvalidCount, HeadMask, LongCounter, FreeTime}
+use Rattle.frame.specs.declared.Item.the-variants.{LongCounter, FreeTime}
 use Rattle.frame.specs.declared.Wrote.the-variants as wrote
 use Rattle.frame.specs.Items.{rowOf}
-use Rattle.frame.specs.Read.{indexOf, carries, bornOf}
+use Rattle.frame.specs.Read.{indexOf, isPlain, carries, bornOf}
+use Rattle.frame.proofs.Rows.{spread-items}
 use Rattle.frame.specs.Laws.{byte39}
 use Rattle.desk.specs.declared.Desk.{Desk}
 use Rattle.desk.specs.declared.Half.{Half}
@@ -250,42 +251,26 @@ module _ (o : Outfit) (one : Demand1For o) (two : Demand2For o) where
   -- a whole frame, item by item
   whole-looks : {d e : Desk} (f : List ℕ) → IsWhole f → SameDesk o d e → (item : Item) → o .look (o .slot d f .desk) item ≡ proved .look (proved .slot e f .desk) item
   whole-looks {d} {e} f w m item =
-      split (ltb (rowOf item) 25)
-      (λ t.
-      let h = ltb-true _ _ t in
+      split (isPlain (rowOf item))
+      (λ h.
       split (carries (rowOf item) (indexOf f))
       (λ c. mine .plain d f item w h c ∙ sym (yours .plain e f item w h c))
       (λ c. mine .other d f item w h c ∙ ap older (m .looks item) ∙ sym (yours .other e f item w h c)))
-      (λ t. spread item t)
+      (spread-items (λ x. o .look (o .slot d f .desk) x ≡ proved .look (proved .slot e f .desk) x) long free item)
     where
-      spread : (item : Item) → ltb (rowOf item) 25 ≡ false → o .look (o .slot d f .desk) item ≡ proved .look (proved .slot e f .desk) item
-      spread LongCounter t = mine .long d f w ∙ ap (λ (x : Half). replaced (completed x 3 3 f) (o .look d LongCounter)) (m .halves) ∙ ap (replaced (completed (e .half) 3 3 f)) (m .looks LongCounter) ∙ sym (yours .long e f w)
-      spread FreeTime t = mine .free d f w ∙ ap (λ (x : Half). replaced (completed x 28 1 f) (o .look d FreeTime)) (m .halves) ∙ ap (replaced (completed (e .half) 28 1 f)) (m .looks FreeTime) ∙ sym (yours .free e f w)
-      spread Parallel t = absurd (true≢false t)
-      spread Multiplexer1 t = absurd (true≢false t)
-      spread Multiplexer2 t = absurd (true≢false t)
-      spread Multiplexer3 t = absurd (true≢false t)
-      spread ErrorCode t = absurd (true≢false t)
-      spread DirectionStop t = absurd (true≢false t)
-      spread DirectionStart t = absurd (true≢false t)
-      spread EnergyStop t = absurd (true≢false t)
-      spread EnergyStart t = absurd (true≢false t)
-      spread LastInvalidCode t = absurd (true≢false t)
-      spread IelEnable t = absurd (true≢false t)
-      spread ReducedCounter t = absurd (true≢false t)
-      spread Bias t = absurd (true≢false t)
-      spread Relay t = absurd (true≢false t)
-      spread Ground t = absurd (true≢false t)
-      spread Stepping t = absurd (true≢false t)
-      spread Limit t = absurd (true≢false t)
-      spread Level t = absurd (true≢false t)
-      spread Flap1 t = absurd (true≢false t)
-      spread Flap2 t = absurd (true≢false t)
-      spread Flap3 t = absurd (true≢false t)
-      spread IelClock t = absurd (true≢false t)
-      spread LastCheck t = absurd (true≢false t)
-      spread InvalidCount t = absurd (true≢false t)
-      spread HeadMask t = absurd (true≢false t)
+      long : o .look (o .slot d f .desk) LongCounter ≡ proved .look (proved .slot e f .desk) LongCounter
+      long =
+          mine .long d f w
+          ∙ ap (λ (x : Half). replaced (completed x 3 3 f) (o .look d LongCounter)) (m .halves)
+          ∙ ap (replaced (completed (e .half) 3 3 f)) (m .looks LongCounter)
+          ∙ sym (yours .long e f w)
+
+      free : o .look (o .slot d f .desk) FreeTime ≡ proved .look (proved .slot e f .desk) FreeTime
+      free =
+          mine .free d f w
+          ∙ ap (λ (x : Half). replaced (completed x 28 1 f) (o .look d FreeTime)) (m .halves)
+          ∙ ap (replaced (completed (e .half) 28 1 f)) (m .looks FreeTime)
+          ∙ sym (yours .free e f w)
 
   slot-same : {d e : Desk} (f : List ℕ) → Sort f → SameDesk o d e → SameDesk o (o .slot d f .desk) (proved .slot e f .desk)
   slot-same {d} {e} f (other n) m = rw (one .frame17 d f n, demand-1 .frame17 e f n) m

@@ -8,7 +8,7 @@ use Rattle.base.specs.Counts.{frames}
 use Rattle.frame.specs.declared.Item.the-variants.{LongCounter}
 use Rattle.frame.specs.Items.{rowOf}
 use Rattle.frame.specs.Write.{quarterOf, groundAt, muxOf, frameOf}
-use Rattle.frame.specs.Read.{allAre, arrivedOf}
+use Rattle.frame.specs.Read.{allAre, arrivedOf, isPlain}
 use Rattle.desk.specs.declared.Shown.{Shown}
 use Rattle.desk.specs.declared.Shown.the-variants.{Unknown, Known}
 use Rattle.desk.specs.Desk.{readingOf, halfAfter, cellsAfter, slotOf}
@@ -24,7 +24,7 @@ see l = proved .look (l .desk) LongCounter
 
 -- four frames built, a spin after the first, before any arrives: the counter is the one latched, aged by slots
 several : see (steps proved (begin proved) (alone spin ∷ built ∷ alone spin ∷ built ∷ built ∷ built ∷ came ∷ came ∷ came ∷ came ∷ [])) ≡ Known 1 (frames 3)
-unfolding steps slotOf arrivedOf allAre cellsAfter readingOf halfAfter frameOf muxOf quarterOf groundAt
+unfolding steps slotOf arrivedOf allAre cellsAfter readingOf isPlain halfAfter frameOf muxOf quarterOf groundAt
 several = refl
 
 -- a frame built and handed over in one, whatever is on its way
@@ -45,11 +45,11 @@ rest = came ∷ built ∷ came ∷ built ∷ came ∷ built ∷ came ∷ []
 
 -- the desk joins the old frame 0 to the new 1 to 3 and shows 0, where the rig held 1 when the first of these four was built
 overtaken : (see (steps proved (overtakes before) rest) ≡ Known 0 (frames 3)) × (shownOf (rowOf LongCounter) (steps proved (overtakes before) rest .past) ≡ Known 1 (frames 3))
-unfolding steps slotOf arrivedOf allAre cellsAfter readingOf halfAfter frameOf muxOf quarterOf groundAt shownOf brought back
+unfolding steps slotOf arrivedOf allAre cellsAfter readingOf isPlain halfAfter frameOf muxOf quarterOf groundAt shownOf brought back
 overtaken = (refl, refl)
 
 overtakenLost : (see (steps proved (overtakesLost before) rest) ≡ Known 0 (frames 3)) × (shownOf (rowOf LongCounter) (steps proved (overtakesLost before) rest .past) ≡ Known 1 (frames 3))
-unfolding steps slotOf arrivedOf allAre cellsAfter readingOf halfAfter frameOf muxOf quarterOf groundAt shownOf brought back
+unfolding steps slotOf arrivedOf allAre cellsAfter readingOf isPlain halfAfter frameOf muxOf quarterOf groundAt shownOf brought back
 overtakenLost = (refl, refl)
 
 -- so demand 3 does not hold of such a run

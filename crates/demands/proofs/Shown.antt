@@ -11,6 +11,7 @@ use lib.Dec.{eqb, leb, ltb, leb→le, ltb→lt}
 use lib.ListN.{drop}
 use lib.Seq.{drop-nil}
 use borrow.Author.Tests.{eq-eqb, eqb-true}
+use Rattle.frame.specs.Items.{items}
 use Rattle.desk.specs.declared.Shown.{Shown}
 use Rattle.desk.specs.declared.Shown.the-variants.{Unknown, Known}
 use Rattle.base.specs.Pick.{pick}
@@ -101,12 +102,12 @@ brings-is k v h b =
     subst (λ (x : List Slot). back (bornOf k) (b .last .sending .next) x ≡ from (b .first)) (t .1) (back-of (b .came)) in
     ap (brought k) (t .1) ∙ rw (eq-eqb _ _ (b .due), e, b .value)
 
-module _ (k : ℕ) (in-table : k < 27) where
+module _ (k : ℕ) (in-table : k < items) where
   born-phase : bornOf k ≤ phaseOf k
-  born-phase = leb→le _ _ (below (λ (j : ℕ). leb (bornOf j) (phaseOf j)) 27 tt k in-table)
+  born-phase = leb→le _ _ (below (λ (j : ℕ). leb (bornOf j) (phaseOf j)) items tt k in-table)
 
   phase-32 : phaseOf k < 32
-  phase-32 = ltb→lt _ _ (below (λ (j : ℕ). ltb (phaseOf j) 32) 27 tt k in-table)
+  phase-32 = ltb→lt _ _ (below (λ (j : ℕ). ltb (phaseOf j) 32) items tt k in-table)
 
   abbrev Case : List Slot → Type 0
   Case h = ((v : ℕ) × Brings k v h × (brought k h ≡ Known v (frames (bornOf k)))) ⊎ (brought k h ≡ Unknown)

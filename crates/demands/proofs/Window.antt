@@ -9,13 +9,14 @@ use native.Mathlib.Omega.{arith}
 use native.Mathlib.Decide.{le-ind}
 use lib.Dec.{T, eqb, leb, ltb, leb→le, ltb→lt}
 use lib.ListN.{replicate}
+use Rattle.frame.specs.Items.{items}
 use Rattle.desk.specs.declared.Shown.the-variants.{Unknown, Known}
 use Rattle.base.specs.declared.Frames.{Frames}
 use Rattle.base.specs.Pick.{pick}
 use Rattle.base.specs.Counts.{frames}
 use Rattle.frame.specs.Read.{carries, bornOf, phaseOf}
 use Rattle.desk.specs.Desk.{agedOf, latestOf, shows}
-use Rattle.base.proofs.Table.{below}
+use Rattle.base.proofs.Table.{below, is-true}
 use Rattle.rig.specs.declared.Rig.{Rig}
 use Rattle.sending.specs.Sending.{sent}
 use Rattle.demands.specs.History.{held, Slot, whole}
@@ -63,10 +64,6 @@ heldIn : ℕ → Run → ℕ
 heldIn k broken = 0
 heldIn k (from r) = held r k
 
-is-true : (b : Bool) → T b → b ≡ true
-is-true true t = refl
-is-true false t = absurd t
-
 module _ (r : Rig) (h : List Slot) (n31 : r .sending .next ≤ 31) where
   B-next : (m : ℕ) → B m r .sending .next ≡ (r .sending .next + m) % 32
   B-next zero = omega arith
@@ -89,18 +86,18 @@ module _ (r : Rig) (h : List Slot) (n31 : r .sending .next ≤ 31) where
       (let p : B m r .sending .next ≡ (r .sending .next + m) % 32 = B-next m in omega (arith, e)) in
       (t .0, back-more n i (B (suc m) r) (W (suc m) r h) e ∙ t .1)
 
-  module _ (k : ℕ) (in-table : k < 27) where
+  module _ (k : ℕ) (in-table : k < items) where
     born-3 : bornOf k ≤ 3
-    born-3 = leb→le _ _ (below (λ (j : ℕ). leb (bornOf j) 3) 27 tt k in-table)
+    born-3 = leb→le _ _ (below (λ (j : ℕ). leb (bornOf j) 3) items tt k in-table)
 
     born-phase : bornOf k ≤ phaseOf k
-    born-phase = leb→le _ _ (below (λ (j : ℕ). leb (bornOf j) (phaseOf j)) 27 tt k in-table)
+    born-phase = leb→le _ _ (below (λ (j : ℕ). leb (bornOf j) (phaseOf j)) items tt k in-table)
 
     phase-32 : phaseOf k < 32
-    phase-32 = ltb→lt _ _ (below (λ (j : ℕ). ltb (phaseOf j) 32) 27 tt k in-table)
+    phase-32 = ltb→lt _ _ (below (λ (j : ℕ). ltb (phaseOf j) 32) items tt k in-table)
 
     carried : carries k (phaseOf k) ≡ true
-    carried = is-true (carries k (phaseOf k)) (below (λ (j : ℕ). carries j (phaseOf j)) 27 tt k in-table)
+    carried = is-true (carries k (phaseOf k)) (below (λ (j : ℕ). carries j (phaseOf j)) items tt k in-table)
 
     -- of item k the present value is shown
     abbrev Fresh : ℕ → Type 0
@@ -141,7 +138,7 @@ module _ (r : Rig) (h : List Slot) (n31 : r .sending .next ≤ 31) where
         le-ind {n = suc due} Fresh (brings due (omega arith) (omega (arith, n))) (λ m l f. stays m (omega arith) f) 35 (omega arith)
 
 -- if 35 slots in a row are built and arrive whole with nothing else happening, every item is shown and equals the rig's present one
-pub thirty-five : (es : List Event) (k : ℕ) → k < 27
+pub thirty-five : (es : List Event) (k : ℕ) → k < items
     → (age : Frames) × (shows (run proved (run proved (start proved) es) (replicate 35 arrives) .desk) k
     ≡ Known (held (run proved (run proved (start proved) es) (replicate 35 arrives) .rig) k) age)
 thirty-five es k l =

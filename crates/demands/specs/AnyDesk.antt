@@ -3,7 +3,7 @@
 use mathlib.Core.Path.{_≡_}
 use mathlib.Core.Bool.{true, false, _&&_, _||_}
 use mathlib.Core.List.{List}
-use Prim.Native.Nat.{ℕ, _+_, _*_, _%_, _<_, min}
+use Prim.Native.Nat.{ℕ, _+_, _*_, _%_, min}
 use lib.Dec.{eqb}
 use lib.ListN.{length}
 use Rattle.base.specs.Pick.{pick}
@@ -11,7 +11,7 @@ use Rattle.base.specs.Counts.{frames}
 use Rattle.frame.specs.declared.Item.{Item}
 use Rattle.frame.specs.declared.Item.the-variants.{LongCounter, FreeTime}
 use Rattle.frame.specs.Items.{rowOf}
-use Rattle.frame.specs.Read.{indexOf, fieldOf, carries}
+use Rattle.frame.specs.Read.{indexOf, fieldOf, isPlain, carries}
 use Rattle.frame.specs.Laws.{byte39, Alike}
 use Rattle.desk.specs.declared.Desk.{Desk}
 use Rattle.desk.specs.declared.Half.{Half}
@@ -58,9 +58,9 @@ pub record SlotLaws (o : Outfit) : Type 0 where
   pub fresh : (item : Item) → o .look (o .fresh) item ≡ Unknown
   pub fresh-half : o .fresh .half ≡ Nothing
   -- a whole frame shows each plain item that it carries, as the table of rows says, at age 0; every other plain item is a slot older
-  pub plain : (d : Desk) (f : List ℕ) (item : Item) → IsWhole f → rowOf item < 25 → carries (rowOf item) (indexOf f) ≡ true
+  pub plain : (d : Desk) (f : List ℕ) (item : Item) → IsWhole f → isPlain (rowOf item) ≡ true → carries (rowOf item) (indexOf f) ≡ true
       → o .look (o .slot d f .desk) item ≡ Known (fieldOf f (rowOf item)) (frames 0)
-  pub other : (d : Desk) (f : List ℕ) (item : Item) → IsWhole f → rowOf item < 25 → carries (rowOf item) (indexOf f) ≡ false
+  pub other : (d : Desk) (f : List ℕ) (item : Item) → IsWhole f → isPlain (rowOf item) ≡ true → carries (rowOf item) (indexOf f) ≡ false
       → o .look (o .slot d f .desk) item ≡ older (o .look d item)
   -- a spread number is replaced where this frame completes it: the long EDB counter at 3, its first frame then 3 slots old, the free time at 28; else it
   -- is a slot older

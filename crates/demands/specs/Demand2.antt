@@ -13,7 +13,7 @@ use Rattle.volts.specs.Volts.{Shows}
 use Rattle.frame.specs.Write.{latchOf, frameOf}
 use Rattle.frame.specs.declared.Reading.the-variants.{Value}
 use Rattle.frame.specs.Items.{heldAt}
-use Rattle.frame.specs.Read.{carries, readOf}
+use Rattle.frame.specs.Read.{isPlain, carries, readOf}
 use Rattle.frame.specs.Laws.{Laws}
 use Rattle.rig.specs.declared.Rig.{Rig}
 use Rattle.rig.specs.Start.{startRig}
@@ -52,7 +52,7 @@ pub record Demand2For (o : Outfit) : Type 0 where
   pub frame : (r : Rig) → o .frame r ≡ frameOf (heldOf r) (r .sending .next) (latchOf (heldOf r) (r .sending .next) (r .sending .latch))
   -- accepted settings show in the next frame that carries them: of every rig that a run has reached, each plain item that the frame carries is read
   -- back as it is held
-  pub shown : (es : List Event) (k : ℕ) → k < 25 → carries k (reached (o .rig) es .sending .next) ≡ true
+  pub shown : (es : List Event) (k : ℕ) → isPlain k ≡ true → carries k (reached (o .rig) es .sending .next) ≡ true
       → readOf (o .frame (reached (o .rig) es)) k ≡ Value (heldAt (heldOf (reached (o .rig) es)) k)
   -- what is written is what is read, item by item, and nothing else is told; the bits that are read, and those that are not
   pub layout : Laws

@@ -17,7 +17,7 @@ use Rattle.desk.specs.declared.Shown.the-variants.{Unknown, Known}
 use Rattle.desk.specs.declared.Answer.{Answer}
 use Rattle.desk.specs.declared.Answer.the-variants.{Heard, Missed, Refused}
 use Rattle.desk.specs.declared.Received.{Received}
-use Rattle.desk.specs.Desk.{bornAt, shownBy, freshDesk, slotOf, missedOf, shows}
+use Rattle.desk.specs.Desk.{shownBy, freshDesk, slotOf, missedOf, shows}
 use Rattle.desk.specs.Laws.{answered}
 use Rattle.judge.specs.declared.Refusal.{Refusal}
 use Rattle.rig.specs.declared.Rig.{Rig}
@@ -85,8 +85,12 @@ abbrev pub pretender : Outfit
 pretender = deskOf freshDesk (λ d f. pick (allKnown (d .cells)) (aged d) (slotOf d f)) missedOf ours-look
 
 -- 5. made-up ages: everything known is shown as new
+abbrev pub asNew : Shown → Shown
+asNew Unknown = Unknown
+asNew (Known v a) = Known v (frames 0)
+
 abbrev pub flatterer : Outfit
-flatterer = deskOf freshDesk slotOf missedOf (λ d item. bornAt (frames 0) (ours-look d item))
+flatterer = deskOf freshDesk slotOf missedOf (λ d item. asNew (ours-look d item))
 
 -- or made-up invalid counts: always 0
 abbrev pub uncounted : Rig → ℕ → Taken

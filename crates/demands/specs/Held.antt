@@ -9,7 +9,7 @@ use lib.Dec.{eqb}
 use lib.ListN.{getD, replicate}
 use Rattle.base.specs.Pick.{pick}
 use Rattle.frame.specs.declared.Item.{Item}
-use Rattle.frame.specs.declared.Item.the-variants.{Parallel, Multiplexer1, Multiplexer2, Multiplexer3, ErrorCode, DirectionStop, DirectionStart, EnergyStop, EnergyStart, LastInvalidCode, IelEnable, ReducedCounter, Bias, Relay, Ground, Stepping, Limit, Level, Flap1, Flap2, Flap3, IelClock, LastCheck, InvalidCount, HeadMask, LongCounter, FreeTime}
+use Rattle.frame.specs.declared.Item.the-variants.{Parallel, Multiplexer1, Multiplexer2, Multiplexer3, ErrorCode, DirectionStop, DirectionStart, EnergyStop, EnergyStart, LastInvalidCode, IelEnable, ReducedCounter, Bias, Relay, Ground, StopStepping, StopLimit, StopLevel, Flap1, Flap2, Flap3, IelClock, LastCheck, InvalidCount, HeadMask, LongCounter, FreeTime}
 use Rattle.frame.specs.Items.{rowOf}
 use Rattle.power.specs.declared.PanelSetting.{PanelSetting}
 use Rattle.power.specs.declared.PanelSetting.the-variants as panel
@@ -43,8 +43,8 @@ table =
     -- singles: serial/parallel, relay, stepping, limit, IEL clock, IEL enable, head mask
     row (send 0x2B01 ∷ []) ((Parallel, 1) ∷ []) ((0, (1, 0x40)) ∷ [])
     ∷ row (send 0x0802 ∷ []) ((Relay, 1) ∷ []) ((0, (2, 0x40)) ∷ [])
-    ∷ row (send 0x2D01 ∷ []) ((Stepping, 1) ∷ []) ((0, (37, 0x10)) ∷ [])
-    ∷ row (send 0x290A ∷ []) ((Limit, 10) ∷ []) ((2, (37, 0xA0)) ∷ [])
+    ∷ row (send 0x2D01 ∷ []) ((StopStepping, 1) ∷ []) ((0, (37, 0x10)) ∷ [])
+    ∷ row (send 0x290A ∷ []) ((StopLimit, 10) ∷ []) ((2, (37, 0xA0)) ∷ [])
     ∷ row (send 0x0C01 ∷ []) ((IelClock, 1) ∷ []) ((12, (39, 0x80)) ∷ [])
     ∷ row (send 0x0C02 ∷ []) ((IelEnable, 1) ∷ []) ((0, (19, 0x80)) ∷ [])
     ∷ row (send 0x2605 ∷ []) ((HeadMask, 5) ∷ []) ((31, (39, 0x50)) ∷ [])
@@ -66,7 +66,7 @@ table =
     ∷ row (set (panel.Flaps false false true) ∷ []) ((Flap3, 1) ∷ []) ((12, (39, 0x40)) ∷ [])
     -- spins; and those that bring the level to the target 15
     ∷ row (replicate 300 spin) ((LongCounter, 300) ∷ (ReducedCounter, 43) ∷ []) ((0, (20, 43)) ∷ (1, (39, 0)) ∷ (2, (39, 1)) ∷ (3, (39, 44)) ∷ [])
-    ∷ row (send 0x0802 ∷ send 0x2D01 ∷ send 0x290F ∷ send 0x280F ∷ replicate 15 spin) ((Relay, 1) ∷ (Stepping, 1) ∷ (Limit, 15) ∷ (Level, 15) ∷ (LongCounter, 15) ∷ (ReducedCounter, 14) ∷ []) ((2, (37, 0xF0)) ∷ (3, (37, 0xF0)) ∷ [])
+    ∷ row (send 0x0802 ∷ send 0x2D01 ∷ send 0x290F ∷ send 0x280F ∷ replicate 15 spin) ((Relay, 1) ∷ (StopStepping, 1) ∷ (StopLimit, 15) ∷ (StopLevel, 15) ∷ (LongCounter, 15) ∷ (ReducedCounter, 14) ∷ []) ((2, (37, 0xF0)) ∷ (3, (37, 0xF0)) ∷ [])
     ∷ []
 
 -- at the start: all 0, but these three

@@ -32,7 +32,7 @@ pub enum Half {
 }
 
 // The number that the bytes so far make, the last frame's included.
-enum SoFar {
+pub enum SoFar {
     None,
     Bytes(u32),
 }

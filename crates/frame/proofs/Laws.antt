@@ -12,7 +12,7 @@ use Rattle.frame.specs.Items.{heldAt}
 use Rattle.frame.specs.Write.{frameOf}
 use Rattle.frame.specs.Read.{remOf, phaseOf, isPlain, carries, indexOf, readOf}
 use Rattle.frame.specs.Laws.{Fits, Laws}
-use Rattle.frame.proofs.Rows.{rounds, plain-lt}
+use Rattle.frame.proofs.Rows.{rounds, plain-lt, plain-items}
 use Rattle.frame.proofs.Came.{no-other}
 use Rattle.frame.proofs.Back.{field-back}
 use Rattle.frame.proofs.Tells.{hides, long-is, free-is, unlatched, stays, whole, no-fill}
@@ -42,6 +42,7 @@ module _ (h : Held) (i l k : ℕ) (b : isPlain k ≡ true) where
 pub laws : Laws
 laws =
     record {
+      plain = plain-items;
       back = back;
       exact = λ h i l k f b. exact h i l k b f;
       silent = silent;

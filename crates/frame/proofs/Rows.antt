@@ -4,6 +4,7 @@ use mathlib.Core.Path.{_≡_, refl, sym, ap, subst, _∙_}
 use mathlib.Core.Bool.{Bool, true, false, true≢false}
 use Prim.Native.Nat.{ℕ, _%_, _<_}
 use native.Mathlib.Nat.{dvd-of-mod-eq-zero, mod-mod-of-dvd}
+use lib.ListN.{getD}
 use lib.Dec.{T, eqb, ltb, eqb→eq, ltb→lt}
 use borrow.Author.Tests.{eqb-true, ltb-true, lt-ltb}
 use Rattle.base.specs.Pick.{pick}
@@ -12,7 +13,7 @@ use Rattle.base.proofs.Table.{below, is-true}
 use Rattle.frame.proofs.Each.{From, each}
 use Rattle.frame.specs.declared.Item.{Item}
 use Rattle.frame.specs.declared.Item.the-variants.{Parallel, Multiplexer1, Multiplexer2, Multiplexer3, ErrorCode, DirectionStop, DirectionStart, EnergyStop, EnergyStart, LastInvalidCode, IelEnable, ReducedCounter, Bias, Relay, Ground, StopStepping, StopLimit, StopLevel, Flap1, Flap2, Flap3, IelClock, LastCheck, InvalidCount, HeadMask, LongCounter, FreeTime}
-use Rattle.frame.specs.Items.{items, rowOf}
+use Rattle.frame.specs.Items.{items, rowOf, allItems}
 use Rattle.frame.specs.Read.{byteOf, divOf, remOf, periodOf, bornOf, isPlain}
 
 module _ (k : ℕ) (h : k < items) where
@@ -63,35 +64,46 @@ spread-rows P long free k h n =
     split (eqb k (rowOf LongCounter)) (λ p. subst P (sym (eqb-true _ _ p)) long)
     (λ p. split (eqb k (rowOf FreeTime)) (λ q. subst P (sym (eqb-true _ _ q)) free) (λ q. absurd (true≢false (sym (each-row k h) ∙ rw (n, p, q)))))
 
--- every item has a row
-row-test : (x : Item) → T (ltb (rowOf x) items)
-row-test Parallel = tt
-row-test Multiplexer1 = tt
-row-test Multiplexer2 = tt
-row-test Multiplexer3 = tt
-row-test ErrorCode = tt
-row-test DirectionStop = tt
-row-test DirectionStart = tt
-row-test EnergyStop = tt
-row-test EnergyStart = tt
-row-test LastInvalidCode = tt
-row-test IelEnable = tt
-row-test ReducedCounter = tt
-row-test Bias = tt
-row-test Relay = tt
-row-test Ground = tt
-row-test StopStepping = tt
-row-test StopLimit = tt
-row-test StopLevel = tt
-row-test Flap1 = tt
-row-test Flap2 = tt
-row-test Flap3 = tt
-row-test IelClock = tt
-row-test LastCheck = tt
-row-test InvalidCount = tt
-row-test HeadMask = tt
-row-test LongCounter = tt
-row-test FreeTime = tt
+-- every item has a row, and stands in the list there
+abbrev itemAt : ℕ → Item
+itemAt k = getD allItems k Parallel
+
+item-test : (x : Item) → T (ltb (rowOf x) items) × (itemAt (rowOf x) ≡ x)
+item-test Parallel = (tt, refl)
+item-test Multiplexer1 = (tt, refl)
+item-test Multiplexer2 = (tt, refl)
+item-test Multiplexer3 = (tt, refl)
+item-test ErrorCode = (tt, refl)
+item-test DirectionStop = (tt, refl)
+item-test DirectionStart = (tt, refl)
+item-test EnergyStop = (tt, refl)
+item-test EnergyStart = (tt, refl)
+item-test LastInvalidCode = (tt, refl)
+item-test IelEnable = (tt, refl)
+item-test ReducedCounter = (tt, refl)
+item-test Bias = (tt, refl)
+item-test Relay = (tt, refl)
+item-test Ground = (tt, refl)
+item-test StopStepping = (tt, refl)
+item-test StopLimit = (tt, refl)
+item-test StopLevel = (tt, refl)
+item-test Flap1 = (tt, refl)
+item-test Flap2 = (tt, refl)
+item-test Flap3 = (tt, refl)
+item-test IelClock = (tt, refl)
+item-test LastCheck = (tt, refl)
+item-test InvalidCount = (tt, refl)
+item-test HeadMask = (tt, refl)
+item-test LongCounter = (tt, refl)
+item-test FreeTime = (tt, refl)
 
 pub row-lt : (x : Item) → rowOf x < items
-row-lt x = ltb→lt _ _ (row-test x)
+row-lt x = ltb→lt _ _ (item-test x .0)
+
+-- what holds in both rows that are not plain holds of each item that is not
+pub spread-items : (P : Item → Type 0) → P LongCounter → P FreeTime → (x : Item) → isPlain (rowOf x) ≡ false → P x
+spread-items P long free x n = subst P (item-test x .1) (spread-rows (λ k. P (itemAt k)) long free (rowOf x) (row-lt x) n)
+
+-- every item but those two is plain
+pub plain-items : (x : Item) → (x ≡ LongCounter → ⊥) → (x ≡ FreeTime → ⊥) → isPlain (rowOf x) ≡ true
+plain-items x a b = split (isPlain (rowOf x)) (λ t. t) (λ f. absurd (spread-items (λ y. y ≡ x → ⊥) (λ e. a (sym e)) (λ e. b (sym e)) x f refl))

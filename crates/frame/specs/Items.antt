@@ -1,6 +1,6 @@
 -- The items (01, "The 40-byte frame": the numbers and switches placed in its first paragraph), each in its row, and the refusals' numbers.
 -- Assumes nothing.
-use mathlib.Core.List.{[], _∷_}
+use mathlib.Core.List.{List, [], _∷_}
 use Prim.Native.Nat.{ℕ}
 use lib.Dec.{eqb}
 use lib.ListN.{getD}
@@ -44,6 +44,13 @@ rowOf InvalidCount = 23
 rowOf HeadMask = 24
 rowOf LongCounter = 25
 rowOf FreeTime = 26
+
+-- all of them, in the order of their rows
+abbrev pub allItems : List Item
+allItems =
+    Parallel ∷ Multiplexer1 ∷ Multiplexer2 ∷ Multiplexer3 ∷ ErrorCode ∷ DirectionStop ∷ DirectionStart ∷ EnergyStop ∷ EnergyStart
+    ∷ LastInvalidCode ∷ IelEnable ∷ ReducedCounter ∷ Bias ∷ Relay ∷ Ground ∷ StopStepping ∷ StopLimit ∷ StopLevel
+    ∷ Flap1 ∷ Flap2 ∷ Flap3 ∷ IelClock ∷ LastCheck ∷ InvalidCount ∷ HeadMask ∷ LongCounter ∷ FreeTime ∷ []
 
 -- the value held of the item in row k; 0 past the last row
 abbrev pub heldAt : Held → ℕ → ℕ

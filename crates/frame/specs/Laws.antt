@@ -9,10 +9,12 @@ use lib.Dec.{eqb, leb, ltb}
 use lib.ListN.{length, getD, replicate}
 use Rattle.base.specs.Pick.{pick}
 use Rattle.frame.specs.declared.Held.{Held}
+use Rattle.frame.specs.declared.Item.{Item}
+use Rattle.frame.specs.declared.Item.the-variants.{LongCounter, FreeTime}
 use Rattle.frame.specs.declared.Arrived.the-variants.{Whole}
 use Rattle.frame.specs.declared.Reading.the-variants.{Nothing, Value}
 use Rattle.frame.specs.declared.Refusal.the-variants.{NotForty, NoRoom}
-use Rattle.frame.specs.Items.{items, heldAt, numberOf}
+use Rattle.frame.specs.Items.{items, rowOf, heldAt, numberOf}
 use Rattle.frame.specs.Write.{latchOf, frameOf}
 use Rattle.frame.specs.Read.{Place, Row, rows, remOf, isPlain, carries, indexOf, readOf, arrivedOf}
 
@@ -75,6 +77,8 @@ pub record Alike (f g : List ℕ) : Type 0 where
   pub masked : (b : ℕ) → bitAnd (getD f b 0) (getD (masks (indexOf f)) b 0) ≡ bitAnd (getD g b 0) (getD (masks (indexOf f)) b 0)
 
 pub record Laws : Type 0 where
+  -- all items are plain but the two that are spread over frames
+  pub plain : (x : Item) → (x ≡ LongCounter → ⊥) → (x ≡ FreeTime → ⊥) → isPlain (rowOf x) ≡ true
   -- each plain item that a frame carries reads back, modulo its width; of any other the frame says nothing
   pub back : (h : Held) (i l k : ℕ) → isPlain k ≡ true → carries k i ≡ true → readOf (frameOf h i l) k ≡ Value (heldAt h k % remOf k)
   pub exact : (h : Held) (i l k : ℕ) → Fits h → isPlain k ≡ true → carries k i ≡ true → readOf (frameOf h i l) k ≡ Value (heldAt h k)

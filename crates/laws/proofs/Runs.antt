@@ -11,8 +11,10 @@ use lib.Dec.{eqb}
 use lib.ListN.{length}
 use Rattle.supply.proofs.Ramp.{spin-moves}
 use Rattle.supply.proofs.Kept.{stepped-safe, stepped-quiet}
-use Rattle.frame.specs.Items.{heldAt}
-use Rattle.frame.specs.Read.{remOf}
+use Rattle.base.specs.Pick.{pick}
+use Rattle.frame.specs.Items.{items, heldAt}
+use Rattle.frame.specs.Read.{remOf, isPlain}
+use Rattle.frame.proofs.Rows.{plain-lt}
 use Rattle.rig.specs.declared.Panel.{Panel}
 use Rattle.power.specs.declared.PanelSetting.{PanelSetting}
 use Rattle.power.specs.declared.PanelSetting.the-variants.{Bias, Ground, FreeTime, Flaps}
@@ -185,8 +187,12 @@ bit-small true = omega arith
 bit-small false = omega arith
 
 -- the switches are bits; the rest is within its bounds, or reduced
-widths : (r : Rig) → Bounds r → (k : ℕ) → k < 25 → heldAt (heldOf r) k < remOf k
-widths r b =
+abbrev plainHeld : Rig → ℕ → ℕ
+plainHeld r k = pick (isPlain k) (heldAt (heldOf r) k) 0
+
+small : (r : Rig) → Bounds r → Under (plainHeld r) remOf items
+unfolding isPlain
+small r b =
     let s = r .core .settings in
     let p = r .panel in
     let parallel = bit-small (s .parallel) in
@@ -197,7 +203,11 @@ widths r b =
     let flap1 = bit-small (p .flap1) in
     let flap2 = bit-small (p .flap2) in
     let flap3 = bit-small (p .flap3) in
-    under (heldAt (heldOf r)) remOf 25 (omega arith)
+    omega arith
+
+widths : (r : Rig) → Bounds r → (k : ℕ) → isPlain k ≡ true → heldAt (heldOf r) k < remOf k
+widths r b k h =
+    subst (λ (t : Bool). pick t (heldAt (heldOf r) k) 0 < remOf k) h (under (plainHeld r) remOf items (small r b) k (plain-lt k h))
 
 pub panel-is : (p : Panel) (s : PanelSetting) → panelOf p s ≡ panelBy p s
 panel-is p (Bias b) = refl

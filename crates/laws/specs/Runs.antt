@@ -10,7 +10,7 @@ use Rattle.base.specs.Pick.{pick}
 use Rattle.base.specs.Counts.{spinMore}
 use Rattle.crc.specs.Crc.{crcOf}
 use Rattle.frame.specs.Items.{heldAt}
-use Rattle.frame.specs.Read.{remOf}
+use Rattle.frame.specs.Read.{remOf, isPlain}
 use Rattle.judge.specs.Refusals.{numberOf}
 use Rattle.supply.specs.Laws.{Quiet, SpinMoves}
 use Rattle.power.specs.declared.PanelSetting.{PanelSetting}
@@ -275,7 +275,7 @@ pub record RunLaws (m : Machine) : Type 0 where
   -- every field keeps its bounds
   pub bounds : (es : List Event) → Bounds (reached m es)
   -- what a frame shows of each plain item fits the item's width, so that nothing is cut off
-  pub widths : (es : List Event) (k : ℕ) → k < 25 → heldAt (heldOf (reached m es)) k < remOf k
+  pub widths : (es : List Event) (k : ℕ) → isPlain k ≡ true → heldAt (heldOf (reached m es)) k < remOf k
   -- a setting and a frame move every rig so, and so does a spin; a power cut returns it to the start
   pub set : (r : Rig) (s : PanelSetting) → SetMoves r s (m .set r s)
   pub sent : (r : Rig) → SentMoves r (m .sent r)
