@@ -21,10 +21,10 @@ use Rattle.demands.specs.Outfit.{proved}
 use Rattle.demands.specs.Demand1.{Demand1For}
 use Rattle.demands.proofs.Numbers.{all-numbers}
 
-with-room : (r : Rig) (b : List ℕ) (at : ℕ) → at + 40 ≤ length b → _≡_ {A = Built} (builtOf r b at) (record { rig = sent r; answer = Done })
+with-room : (r : Rig) (b : List ℕ) (at : ℕ) → at + 40 ≤ length b → _≡_ {A = Built} (builtOf r b at) (record { rig = sent r; wrote = Done })
 with-room r b at h = simp (le-ltb _ _ h)
 
-no-room : (r : Rig) (b : List ℕ) (at : ℕ) → length b < at + 40 → _≡_ {A = Built} (builtOf r b at) (record { rig = r; answer = Refused (numbered 18) })
+no-room : (r : Rig) (b : List ℕ) (at : ℕ) → length b < at + 40 → _≡_ {A = Built} (builtOf r b at) (record { rig = r; wrote = Refused (numbered 18) })
 no-room r b at h = simp (lt-ltb _ _ h)
 
 pub demand-1 : Demand1For proved

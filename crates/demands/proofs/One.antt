@@ -195,7 +195,7 @@ one-rig o one two =
           (λ t. let h = ltb-true _ _ t in one .room18 r b at h .0 ∙ sym (demand-1 .room18 r b at h .0))
           (λ t.
           let h = ltb-false _ _ t in
-          one .room r b at h .0 ∙ ap (λ (q : Rig). record { rig = q; answer = wrote.Done }) (sent-is r (o .rig .sent r) (two .runs .sent r)) ∙ sym (demand-1 .room r b at h .0));
+          one .room r b at h .0 ∙ ap (λ (q : Rig). record { rig = q; wrote = wrote.Done }) (sent-is r (o .rig .sent r) (two .runs .sent r)) ∙ sym (demand-1 .room r b at h .0));
       filled = λ r b at.
           split (ltb (length b) (at + 40))
           (λ t. let h = ltb-true _ _ t in one .room18 r b at h .1 ∙ sym (demand-1 .room18 r b at h .1))

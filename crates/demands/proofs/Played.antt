@@ -11,20 +11,24 @@ use Rattle.frame.specs.declared.Wrote.the-variants as wrote
 use Rattle.frame.specs.Items.{numbered}
 use Rattle.frame.specs.Write.{wroteOf}
 use Rattle.frame.proofs.Place.{room, short}
-use Rattle.desk.specs.declared.Answer.the-variants.{Heard}
+use Rattle.desk.specs.declared.Answer.{Answer}
+use Rattle.desk.specs.declared.Answer.the-variants.{Heard, Missed}
+use Rattle.desk.specs.Desk.{slotOf, missedOf}
 use Rattle.desk.specs.declared.Received.{Received}
 use Rattle.desk.proofs.Laws.{laws as desk-laws}
 use Rattle.rig.specs.declared.Rig.{Rig}
-use Rattle.sending.specs.Sending.{heldOf, nextLatch, filledOf, nextFrame}
+use Rattle.sending.specs.Sending.{heldOf, nextLatch, filledOf, nextFrame, sent}
 use Rattle.bench.specs.declared.Bench.{Bench}
 use Rattle.bench.specs.declared.Worded.{Worded}
 use Rattle.slots.specs.declared.Sent.{Sent}
 use Rattle.slots.specs.declared.Handed.{Handed}
-use Rattle.slots.specs.Slots.{builtBench, handedOf, arrivedBench, lostBench}
+use Rattle.slots.specs.declared.Passed.{Passed}
+use Rattle.slots.specs.declared.Outcome.the-variants.{Slot}
+use Rattle.slots.specs.Slots.{builtBench, handedOf, passedIf}
 use Rattle.slots.proofs.Place.{stands}
 use Rattle.demands.specs.Outfit.{proved}
 use Rattle.demands.specs.Queue.{Line, marked, C0, FF, built, came, gone, arrive, lose}
-use Rattle.demands.specs.Played.{benchAt, then, Written, NoRoom, PlayedAlone, PlayedSlots}
+use Rattle.demands.specs.Played.{benchAt, then, Written, WrittenOn, NoRoom, NoSlot, PlayedAlone, PlayedSlots}
 
 -- a buffer with room is written; one without is refused
 writes : (r : Rig) (s : List ℕ) (at : ℕ) → at + 40 ≤ length s → wroteOf at s ≡ wrote.Done
@@ -35,6 +39,9 @@ no-room s at h = simp (lt-ltb _ _ h)
 
 abbrev sentBench : Sent → Bench
 sentBench t = t .bench
+
+abbrev passedBench : Passed → Bench
+passedBench t = t .bench
 
 abbrev handedBench : Handed → Bench
 handedBench t = t .bench
@@ -57,12 +64,6 @@ played-alone =
 -- what is built, at a buffer with room
 built-bench : (l : Line) (s : List ℕ) (at : ℕ) → at + 40 ≤ length s → builtBench (benchAt l) s at .bench ≡ benchAt (then l built)
 built-bench l s at h = rw (writes (l .rig) s at h) refl
-
-arrived-bench : (l : Line) (s : List ℕ) (at : ℕ) → l .way ≡ [] → at + 40 ≤ length s → arrivedBench (benchAt l) s at .bench ≡ benchAt (then (then l built) came)
-arrived-bench l s at e h = rw (e, writes (l .rig) s at h) refl
-
-lost-bench : (l : Line) (s : List ℕ) (at : ℕ) → l .way ≡ [] → at + 40 ≤ length s → lostBench (benchAt l) s at .bench ≡ benchAt (then (then l built) (gone marked))
-lost-bench l s at e h = rw (e, writes (l .rig) s at h) refl
 
 -- what is handed over, at the bench of a line
 handed-at : (l : Line) (b : Bench) (f g : List ℕ) (t : Handed) → b ≡ benchAt l → f ≡ g → t ≡ handedOf b f → t ≡ handedOf (benchAt l) g
@@ -92,15 +93,46 @@ module _ (by : Bench → List ℕ → ℕ → Sent) (l : Line) (b : Bench) (s le
     n ∙ short (heldOf (b .rig)) (b .rig .sending .next) (nextLatch (b .rig)) at s h .1,
   )
 
+-- the same of a call that also passes the slot, of which the desk makes `slot`
+module _ (slot : Bench → Received) (l : Line) (b : Bench) (s left : List ℕ) (at : ℕ) (t : Passed) (p : b ≡ benchAt l)
+    (m : t ≡ passedIf (wroteOf at s) b (slot b)) (n : left ≡ filledOf (b .rig) s at) where
+  on-line : t ≡ passedIf (wroteOf at s) (benchAt l) (slot (benchAt l))
+  on-line = m ∙ ap (λ (x : Bench). passedIf (wroteOf at s) x (slot x)) p
+
+  passed-on : (k : Line) (a : Answer) → at + 40 ≤ length s → slot (benchAt l) .answer ≡ a
+      → _≡_ {A = Bench} (record { rig = sent (l .rig); desk = slot (benchAt l) .desk }) (benchAt k) → WrittenOn l k s at a t left
+  passed-on k a h u v =
+      let e : t ≡ passedIf wrote.Done (benchAt l) (slot (benchAt l)) = on-line ∙ ap (λ (w : Wrote). passedIf w (benchAt l) (slot (benchAt l))) (writes (l .rig) s at h) in (
+        ap passedBench e ∙ v,
+        ap (λ (x : Passed). x .outcome) e ∙ ap Slot u,
+        n ∙ ap (λ (x : Bench). filledOf (x .rig) s at) p,
+      )
+
+  no-slot : length s < at + 40 → NoSlot l s t left
+  no-slot h =
+      let e : t ≡ passedIf (wrote.Refused (numbered 18)) (benchAt l) (slot (benchAt l)) = on-line ∙ ap (λ (w : Wrote). passedIf w (benchAt l) (slot (benchAt l))) (no-room s at h) in (
+        ap passedBench e,
+        ap (λ (x : Passed). x .outcome) e,
+        n ∙ short (heldOf (b .rig)) (b .rig .sending .next) (nextLatch (b .rig)) at s h .1,
+      )
+
+-- what the desk makes of the rig's next frame, and of a miss
+abbrev heardSlot : Bench → Received
+heardSlot b = slotOf (b .desk) (nextFrame (b .rig))
+
+abbrev missedSlot : Bench → Received
+missedSlot b = record { answer = Missed; desk = missedOf (b .desk) }
+
+-- with nothing on its way, the frame that is built is the one whose slot passes
+arrived-line : (l : Line) → l .way ≡ [] → _≡_ {A = Bench} (record { rig = sent (l .rig); desk = heardSlot (benchAt l) .desk }) (benchAt (then (then l built) came))
+arrived-line l e = rw e refl
+
+lost-line : (l : Line) → l .way ≡ [] → _≡_ {A = Bench} (record { rig = sent (l .rig); desk = missedSlot (benchAt l) .desk }) (benchAt (then (then l built) (gone marked)))
+lost-line l e = rw e refl
+
 -- with no room the bench is as it was
 built-none : (l : Line) (s : List ℕ) (at : ℕ) → length s < at + 40 → builtBench (benchAt l) s at .bench ≡ benchAt l
 built-none l s at h = rw (no-room s at h) refl
-
-arrived-none : (l : Line) (s : List ℕ) (at : ℕ) → length s < at + 40 → arrivedBench (benchAt l) s at .bench ≡ benchAt l
-arrived-none l s at h = rw (no-room s at h) refl
-
-lost-none : (l : Line) (s : List ℕ) (at : ℕ) → length s < at + 40 → lostBench (benchAt l) s at .bench ≡ benchAt l
-lost-none l s at h = rw (no-room s at h) refl
 
 pub played-slots : PlayedSlots
 played-slots =
@@ -141,21 +173,13 @@ played-slots =
           let k = handed-at l (a .0) (now (a .1 .0)) f t p g m in
           (ap handedBench k, ap (λ (t : Handed). t .answer) k ∙ ap (λ (t : Received). t .answer) (desk-laws .refused (l .desk) f n));
       whole = λ l o κs a e t p h m.
-          let s = now (a .1 .0) in
-          let at = a .1 .1 .0 in
-          wrote-it arrivedBench l (a .0) s (e .1 .0 .now) at t p (m .0) (m .1) (then (then l built) came) h refl (arrived-bench l s at o h);
+          passed-on heardSlot l (a .0) (now (a .1 .0)) (e .1 .0 .now) (a .1 .1 .0) t p (m .0) (m .1) (then (then l built) came) Heard h
+          (ap (λ (t : Received). t .answer) (desk-laws .built (l .desk) (heldOf (l .rig)) (l .rig .sending .next) (nextLatch (l .rig)))) (arrived-line l o);
       lost = λ l o κs a e t p h m.
-          let s = now (a .1 .0) in
-          let at = a .1 .1 .0 in
-          wrote-it lostBench l (a .0) s (e .1 .0 .now) at t p (m .0) (m .1) (then (then l built) (gone marked)) h refl (lost-bench l s at o h);
-      whole18 = λ l κs a e t p h m.
-          let s = now (a .1 .0) in
-          let at = a .1 .1 .0 in
-          wrote-none arrivedBench l (a .0) s (e .1 .0 .now) at t p (m .0) (m .1) h refl (arrived-none l s at h);
-      lost18 = λ l κs a e t p h m.
-          let s = now (a .1 .0) in
-          let at = a .1 .1 .0 in
-          wrote-none lostBench l (a .0) s (e .1 .0 .now) at t p (m .0) (m .1) h refl (lost-none l s at h);
+          passed-on missedSlot l (a .0) (now (a .1 .0)) (e .1 .0 .now) (a .1 .1 .0) t p (m .0) (m .1) (then (then l built) (gone marked)) Missed h refl
+          (lost-line l o);
+      whole18 = λ l κs a e t p h m. no-slot heardSlot l (a .0) (now (a .1 .0)) (e .1 .0 .now) (a .1 .1 .0) t p (m .0) (m .1) h;
+      lost18 = λ l κs a e t p h m. no-slot missedSlot l (a .0) (now (a .1 .0)) (e .1 .0 .now) (a .1 .1 .0) t p (m .0) (m .1) h;
       asks-build = λ κs a. tt;
       asks-hand = λ κs a. tt;
       asks-miss = λ b. tt;

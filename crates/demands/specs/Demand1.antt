@@ -38,10 +38,10 @@ pub record Demand1For (o : Outfit) : Type 0 where
   pub heard : (d : Desk) (f : List ℕ) → IsWhole f → o .slot d f .answer ≡ desk.Heard
   -- 18, fewer than 40 bytes from the named place on, or the place past the end: nothing changes in the rig or the buffer, no frame is used up
   pub room18 : (r : Rig) (b : List ℕ) (at : ℕ) → length b < at + 40
-      → (o .build r b at ≡ record { rig = r; answer = wrote.Refused (numbered 18) }) × (o .filled r b at ≡ b)
+      → (o .build r b at ≡ record { rig = r; wrote = wrote.Refused (numbered 18) }) × (o .filled r b at ≡ b)
   -- with room, the frame stands at the named place, the bytes outside stay the same, and one frame is used up
   pub room : (r : Rig) (b : List ℕ) (at : ℕ) → at + 40 ≤ length b
-      → (o .build r b at ≡ record { rig = o .rig .sent r; answer = wrote.Done }) × (o .filled r b at ≡ take at b ++ (o .frame r ++ drop (at + 40) b))
+      → (o .build r b at ≡ record { rig = o .rig .sent r; wrote = wrote.Done }) × (o .filled r b at ≡ take at b ++ (o .frame r ++ drop (at + 40) b))
   -- 19 to 24, of any bytes, in 01's order: the first whose condition holds; 0 stands for an answer that is no refusal
   pub part : (b : List ℕ) (p : Part) → numberIn (locateOf b p) ≡ firstOf (partRefusals b p)
   pub event : (b : List ℕ) (n : ℕ) → eventNumber (directOf b n) ≡ firstOf (directRefusals b n)

@@ -22,6 +22,9 @@ use Rattle.bench.proofs.spin.Reads as spin-fn
 use Rattle.bench.proofs.set.Reads as set-fn
 use Rattle.bench.proofs.power_cut.Reads as cut-fn
 use Rattle.slots.specs.declared.Sent.{Sent}
+use Rattle.slots.specs.declared.Passed.{Passed}
+use Rattle.slots.specs.declared.Outcome.the-variants.{NoFrame, Slot}
+use Rattle.desk.specs.declared.Answer.{Answer}
 use Rattle.slots.specs.declared.Handed.{Handed}
 use Rattle.slots.proofs.build.Reads as build-fn
 use Rattle.slots.proofs.build.Kinds as build-kinds
@@ -63,9 +66,16 @@ Handing l f P =
 abbrev pub Written : Line → Line → List ℕ → ℕ → Sent → List ℕ → Type 0
 Written l k s at t left = (t .bench ≡ benchAt k) × (t .wrote ≡ wrote.Done) × (left ≡ proved .filled (l .rig) s at)
 
+-- the same of a frame whose slot has passed, which the desk answered
+abbrev pub WrittenOn : Line → Line → List ℕ → ℕ → Answer → Passed → List ℕ → Type 0
+WrittenOn l k s at a t left = (t .bench ≡ benchAt k) × (t .outcome ≡ Slot a) × (left ≡ proved .filled (l .rig) s at)
+
 -- no room (18): bench and buffer are as they were, and no slot passes
 abbrev pub NoRoom : Line → List ℕ → Sent → List ℕ → Type 0
 NoRoom l s t left = (t .bench ≡ benchAt l) × (t .wrote ≡ wrote.Refused (numbered 18)) × (left ≡ s)
+
+abbrev pub NoSlot : Line → List ℕ → Passed → List ℕ → Type 0
+NoSlot l s t left = (t .bench ≡ benchAt l) × (t .outcome ≡ NoFrame (numbered 18)) × (left ≡ s)
 
 -- what happens to the rig alone
 pub record PlayedAlone : Type 0 where
@@ -113,17 +123,17 @@ pub record PlayedSlots : Type 0 where
   pub frame17 : (l : Line) (f : List ℕ) (n : length f ≡ 40 → ⊥)
       → Handing l f (λ t. (t .bench ≡ benchAt (then l (torn f n))) × (t .answer ≡ desk.Refused (numbered 17)))
   -- built and handed over in one, or built and lost in one: with nothing on its way, the two steps one after the other
-  pub whole : (l : Line) → l .way ≡ [] → (κs : Lfts 1) (a : Dens κs arrives-kinds.ps) (e : AtExit (endedOf 1 arrives-kinds.ps arrives-kinds.r) κs) (t : Sent)
+  pub whole : (l : Line) → l .way ≡ [] → (κs : Lfts 1) (a : Dens κs arrives-kinds.ps) (e : AtExit (endedOf 1 arrives-kinds.ps arrives-kinds.r) κs) (t : Passed)
       → a .0 ≡ benchAt l → a .1 .1 .0 + 40 ≤ length (now (a .1 .0)) → arrives-fn.Post κs a t e
-      → Written l (then (then l built) came) (now (a .1 .0)) (a .1 .1 .0) t (e .1 .0 .now)
-  pub lost : (l : Line) → l .way ≡ [] → (κs : Lfts 1) (a : Dens κs lost-kinds.ps) (e : AtExit (endedOf 1 lost-kinds.ps lost-kinds.r) κs) (t : Sent)
+      → WrittenOn l (then (then l built) came) (now (a .1 .0)) (a .1 .1 .0) desk.Heard t (e .1 .0 .now)
+  pub lost : (l : Line) → l .way ≡ [] → (κs : Lfts 1) (a : Dens κs lost-kinds.ps) (e : AtExit (endedOf 1 lost-kinds.ps lost-kinds.r) κs) (t : Passed)
       → a .0 ≡ benchAt l → a .1 .1 .0 + 40 ≤ length (now (a .1 .0)) → lost-fn.Post κs a t e
-      → Written l (then (then l built) (gone marked)) (now (a .1 .0)) (a .1 .1 .0) t (e .1 .0 .now)
+      → WrittenOn l (then (then l built) (gone marked)) (now (a .1 .0)) (a .1 .1 .0) desk.Missed t (e .1 .0 .now)
   -- and where there is no room, neither
-  pub whole18 : (l : Line) (κs : Lfts 1) (a : Dens κs arrives-kinds.ps) (e : AtExit (endedOf 1 arrives-kinds.ps arrives-kinds.r) κs) (t : Sent)
-      → a .0 ≡ benchAt l → length (now (a .1 .0)) < a .1 .1 .0 + 40 → arrives-fn.Post κs a t e → NoRoom l (now (a .1 .0)) t (e .1 .0 .now)
-  pub lost18 : (l : Line) (κs : Lfts 1) (a : Dens κs lost-kinds.ps) (e : AtExit (endedOf 1 lost-kinds.ps lost-kinds.r) κs) (t : Sent)
-      → a .0 ≡ benchAt l → length (now (a .1 .0)) < a .1 .1 .0 + 40 → lost-fn.Post κs a t e → NoRoom l (now (a .1 .0)) t (e .1 .0 .now)
+  pub whole18 : (l : Line) (κs : Lfts 1) (a : Dens κs arrives-kinds.ps) (e : AtExit (endedOf 1 arrives-kinds.ps arrives-kinds.r) κs) (t : Passed)
+      → a .0 ≡ benchAt l → length (now (a .1 .0)) < a .1 .1 .0 + 40 → arrives-fn.Post κs a t e → NoSlot l (now (a .1 .0)) t (e .1 .0 .now)
+  pub lost18 : (l : Line) (κs : Lfts 1) (a : Dens κs lost-kinds.ps) (e : AtExit (endedOf 1 lost-kinds.ps lost-kinds.r) κs) (t : Passed)
+      → a .0 ≡ benchAt l → length (now (a .1 .0)) < a .1 .1 .0 + 40 → lost-fn.Post κs a t e → NoSlot l (now (a .1 .0)) t (e .1 .0 .now)
   -- they ask nothing
   pub asks-build : (κs : Lfts 1) (a : Dens κs build-kinds.ps) → build-fn.Pre κs a
   pub asks-hand : (κs : Lfts 1) (a : Dens κs hand-kinds.ps) → hand-fn.Pre κs a

@@ -78,9 +78,9 @@ sentWith (Refused why) r latch = r
 abbrev pub sent : Rig → Rig
 sent r = sentWith Done r (nextLatch r)
 
--- the rig and the answer, where a frame was to be built at a place of the buffer b; and what the buffer then holds
+-- the rig, and whether there was room, where a frame was to be built at a place of the buffer b; and what the buffer then holds
 abbrev pub builtOf : Rig → List ℕ → ℕ → Built
-builtOf r b at = record { rig = sentWith (wroteOf at b) r (nextLatch r); answer = wroteOf at b }
+builtOf r b at = record { rig = sentWith (wroteOf at b) r (nextLatch r); wrote = wroteOf at b }
 
 abbrev pub filledOf : Rig → List ℕ → ℕ → List ℕ
 filledOf r b at = written (heldOf r) (r .sending .next) (nextLatch r) at b

@@ -12,7 +12,7 @@ use rig::Sending;
 // The rig after a frame was to be built, and whether it was.
 pub struct Built {
     pub rig: Rig,
-    pub answer: Wrote,
+    pub wrote: Wrote,
 }
 
 fn bit_of(b: bool) -> u8
@@ -98,8 +98,5 @@ pub fn build(rig: Rig, buf: &mut [u8], at: usize) -> Built
     let latch = writing::latched(held, next, sending.latch);
     let wrote = writing::write_at(held, next, latch, buf, at);
     let after = sent_if(rig, latch, wrote);
-    Built {
-        rig: after,
-        answer: wrote,
-    }
+    Built { rig: after, wrote }
 }

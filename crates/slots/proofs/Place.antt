@@ -16,11 +16,14 @@ use Rattle.frame.specs.Write.{wroteOf, frameOf}
 use Rattle.frame.proofs.Place.{frame-length, room}
 use Rattle.rig.specs.declared.Rig.{Rig}
 use Rattle.sending.specs.Sending.{heldOf, nextLatch, nextFrame, sentWith, filledOf}
-use Rattle.desk.specs.Desk.{slotOf}
+use Rattle.desk.specs.declared.Answer.the-variants.{Missed}
+use Rattle.desk.specs.declared.Received.{Received}
+use Rattle.desk.specs.Desk.{slotOf, missedOf}
 use Rattle.bench.specs.declared.Bench.{Bench}
 use Rattle.bench.specs.Bench.{withRig, withDesk}
-use Rattle.slots.specs.declared.Sent.{Sent}
-use Rattle.slots.specs.Slots.{builtBench, handedOf, missedBench, heardIf, arrivedBench, missedIf}
+use Rattle.slots.specs.declared.Passed.{Passed}
+use Rattle.slots.specs.declared.Outcome.the-variants.{NoFrame, Slot}
+use Rattle.slots.specs.Slots.{builtBench, handedOf, missedBench, passedIf, arrivedBench, lostBench}
 
 -- a frame that was written had room
 pub had-room : (at : ℕ) (s : List ℕ) → wroteOf at s ≡ Done → at + 40 ≤ length s
@@ -42,29 +45,29 @@ stands r s at h =
 pub part : (s : List ℕ) (at : ℕ) → take (at + 40 - at) (drop at s) ≡ take 40 (drop at s)
 part s at = let e : at + 40 - at ≡ 40 = omega arith in rw e
 
-done : (x : Wrote) (b : Bench) → x ≡ Done
-    → _≡_ {A = Sent} (record { bench = withDesk (withRig b (sentWith x (b .rig) (nextLatch (b .rig)))) (slotOf (b .desk) (nextFrame (b .rig)) .desk); wrote = x })
-    (record { bench = heardIf x b; wrote = x })
-done x b e = rw e
+-- the bench once the frame is written, and the desk has made t of its slot
+passed : (x : Wrote) (b : Bench) (t : Received) → x ≡ Done
+    → _≡_ {A = Passed} (record { bench = withDesk (withRig b (sentWith x (b .rig) (nextLatch (b .rig)))) (t .desk); outcome = Slot (t .answer) }) (passedIf x b t)
+passed x b t e = rw e
 
-abbrev sentFrom : Bench → List ℕ → ℕ → List ℕ → Sent
-sentFrom b s at x = record { bench = handedOf (builtBench b s at .bench) x .bench; wrote = wroteOf at s }
+abbrev onFrom : Bench → List ℕ → ℕ → List ℕ → Passed
+onFrom b s at x =
+    record { bench = handedOf (builtBench b s at .bench) x .bench; outcome = Slot (handedOf (builtBench b s at .bench) x .answer) }
 
 -- a frame built and then handed to the desk from the buffer
 pub handed-on : (b : Bench) (s : List ℕ) (at : ℕ) → wroteOf at s ≡ Done
-    → _≡_ {A = Sent} (record { bench = handedOf (builtBench b s at .bench) (take (at + 40 - at) (drop at (filledOf (b .rig) s at))) .bench; wrote = wroteOf at s })
-    (arrivedBench b s at)
+    → onFrom b s at (take (at + 40 - at) (drop at (filledOf (b .rig) s at))) ≡ arrivedBench b s at
 handed-on b s at e =
     let f : take (at + 40 - at) (drop at (filledOf (b .rig) s at)) ≡ nextFrame (b .rig) =
     part (filledOf (b .rig) s at) at ∙ stands (b .rig) s at (had-room at s e) in
-    ap (λ (x : List ℕ). sentFrom b s at x) f ∙ done (wroteOf at s) b e
+    ap (λ (x : List ℕ). onFrom b s at x) f ∙ passed (wroteOf at s) b (slotOf (b .desk) (nextFrame (b .rig))) e
 
 -- a frame built whose slot is then marked missed
-pub lost-on : (x : Wrote) (b : Bench) → x ≡ Done
-    → _≡_ {A = Sent} (record { bench = missedBench (withRig b (sentWith x (b .rig) (nextLatch (b .rig)))); wrote = x }) (record { bench = missedIf x b; wrote = x })
-lost-on x b e = rw e
+pub lost-on : (b : Bench) (s : List ℕ) (at : ℕ) → wroteOf at s ≡ Done
+    → _≡_ {A = Passed} (record { bench = missedBench (builtBench b s at .bench); outcome = Slot Missed }) (lostBench b s at)
+lost-on b s at e = passed (wroteOf at s) b (record { answer = Missed; desk = missedOf (b .desk) }) e
 
 -- where nothing was written, no slot passes: neither a whole one nor a missed one
-pub refused : (by : Wrote → Bench → Bench) (x : Wrote) (b : Bench) (why : Refusal) → by (Refused why) b ≡ b → x ≡ Refused why
-    → _≡_ {A = Sent} (record { bench = withRig b (sentWith x (b .rig) (nextLatch (b .rig))); wrote = x }) (record { bench = by x b; wrote = x })
-refused by x b why same e = rw e (ap (λ (c : Bench). record { bench = c; wrote = Refused why }) (sym same))
+pub refused : (x : Wrote) (b : Bench) (t : Received) (why : Refusal) → x ≡ Refused why
+    → _≡_ {A = Passed} (record { bench = withRig b (sentWith x (b .rig) (nextLatch (b .rig))); outcome = NoFrame why }) (passedIf x b t)
+refused x b t why e = rw e

@@ -8,6 +8,7 @@ use Rattle.base.proofs.Single.{same}
 use Rattle.bench.specs.declared.Bench.{Bench}
 use Rattle.slots.specs.declared.Sent.{Sent}
 use Rattle.slots.specs.declared.Handed.{Handed}
+use Rattle.slots.specs.declared.Passed.{Passed}
 use Rattle.slots.proofs.build.Kinds as build-kinds
 use Rattle.slots.proofs.build.Reads as build
 use Rattle.slots.proofs.hand.Kinds as hand-kinds
@@ -31,10 +32,10 @@ module _ (κs : Lfts 1) where
       → build.Post κs a r e → build.Post κs a q f → (r ≡ q) × (e .1 .0 .now ≡ f .1 .0 .now)
   build-one a e f r q m n = (same (m .0) (n .0), same (m .1) (n .1))
 
-  pub arrives-one : (a : Dens κs arrives-kinds.ps) (e f : AtExit (endedOf 1 arrives-kinds.ps arrives-kinds.r) κs) (r q : Sent)
+  pub arrives-one : (a : Dens κs arrives-kinds.ps) (e f : AtExit (endedOf 1 arrives-kinds.ps arrives-kinds.r) κs) (r q : Passed)
       → arrives.Post κs a r e → arrives.Post κs a q f → (r ≡ q) × (e .1 .0 .now ≡ f .1 .0 .now)
   arrives-one a e f r q m n = (same (m .0) (n .0), same (m .1) (n .1))
 
-  pub lost-one : (a : Dens κs lost-kinds.ps) (e f : AtExit (endedOf 1 lost-kinds.ps lost-kinds.r) κs) (r q : Sent)
+  pub lost-one : (a : Dens κs lost-kinds.ps) (e f : AtExit (endedOf 1 lost-kinds.ps lost-kinds.r) κs) (r q : Passed)
       → lost.Post κs a r e → lost.Post κs a q f → (r ≡ q) × (e .1 .0 .now ≡ f .1 .0 .now)
   lost-one a e f r q m n = (same (m .0) (n .0), same (m .1) (n .1))

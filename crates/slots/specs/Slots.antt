@@ -5,16 +5,20 @@ use mathlib.Core.List.{List}
 use Rattle.frame.specs.declared.Wrote.{Wrote}
 use Rattle.frame.specs.declared.Wrote.the-variants.{Done, Refused}
 use Rattle.frame.specs.Write.{wroteOf}
+use Rattle.desk.specs.declared.Answer.the-variants.{Missed}
+use Rattle.desk.specs.declared.Received.{Received}
 use Rattle.desk.specs.Desk.{slotOf, missedOf}
 use Rattle.sending.specs.Sending.{nextFrame, sent, builtOf}
 use Rattle.bench.specs.declared.Bench.{Bench}
 use Rattle.bench.specs.Bench.{withRig, withDesk}
 use Rattle.slots.specs.declared.Sent.{Sent}
 use Rattle.slots.specs.declared.Handed.{Handed}
+use Rattle.slots.specs.declared.Passed.{Passed}
+use Rattle.slots.specs.declared.Outcome.the-variants.{NoFrame, Slot}
 
 -- the next frame built at a place of the buffer s: the rig alone moves; where there is no room it stays as it was (18)
 abbrev pub builtBench : Bench → List ℕ → ℕ → Sent
-builtBench b s at = record { bench = withRig b (builtOf (b .rig) s at .rig); wrote = builtOf (b .rig) s at .answer }
+builtBench b s at = record { bench = withRig b (builtOf (b .rig) s at .rig); wrote = builtOf (b .rig) s at .wrote }
 
 -- bytes handed to the desk: the desk alone moves; bytes that are not 40 leave it as it was (17)
 abbrev pub handedOf : Bench → List ℕ → Handed
@@ -24,20 +28,15 @@ handedOf b f = record { bench = withDesk b (slotOf (b .desk) f .desk); answer = 
 abbrev pub missedBench : Bench → Bench
 missedBench b = withDesk b (missedOf (b .desk))
 
--- once the frame is written, the desk hears its 40 bytes; where there was no room (18), nothing happens
-abbrev pub heardIf : Wrote → Bench → Bench
-heardIf Done b = record { rig = sent (b .rig); desk = slotOf (b .desk) (nextFrame (b .rig)) .desk }
-heardIf (Refused why) b = b
+-- once the frame is written, its slot passes, and the desk makes t of it; where there was no room (18), nothing happens and no slot passes
+abbrev pub passedIf : Wrote → Bench → Received → Passed
+passedIf Done b t = record { bench = record { rig = sent (b .rig); desk = t .desk }; outcome = Slot (t .answer) }
+passedIf (Refused why) b t = record { bench = b; outcome = NoFrame why }
 
 -- the next frame built at a place of the buffer s and handed on whole
-abbrev pub arrivedBench : Bench → List ℕ → ℕ → Sent
-arrivedBench b s at = record { bench = heardIf (wroteOf at s) b; wrote = wroteOf at s }
+abbrev pub arrivedBench : Bench → List ℕ → ℕ → Passed
+arrivedBench b s at = passedIf (wroteOf at s) b (slotOf (b .desk) (nextFrame (b .rig)))
 
--- once the frame is written, its slot is marked missed; where there was no room (18), nothing happens and no slot passes
-abbrev pub missedIf : Wrote → Bench → Bench
-missedIf Done b = record { rig = sent (b .rig); desk = missedOf (b .desk) }
-missedIf (Refused why) b = b
-
--- the next frame built at a place of the buffer s, and lost
-abbrev pub lostBench : Bench → List ℕ → ℕ → Sent
-lostBench b s at = record { bench = missedIf (wroteOf at s) b; wrote = wroteOf at s }
+-- the next frame built at a place of the buffer s, and its slot marked missed
+abbrev pub lostBench : Bench → List ℕ → ℕ → Passed
+lostBench b s at = passedIf (wroteOf at s) b (record { answer = Missed; desk = missedOf (b .desk) })

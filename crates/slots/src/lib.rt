@@ -5,6 +5,7 @@ ghost use Rattle.sending.specs.Sending.{filledOf};
 ghost use Rattle.slots.specs.Slots.{builtBench, handedOf, missedBench, arrivedBench, lostBench};
 use bench::Bench;
 use desk::Answer;
+use frame::Refusal;
 use frame::Wrote;
 
 // After a frame was to be built: the bench, and whether there was room.
@@ -19,6 +20,18 @@ pub struct Handed {
     pub answer: Answer,
 }
 
+// What became of a frame's slot: there was no frame (18), and no slot; or what the desk made of the slot.
+pub enum Outcome {
+    NoFrame(Refusal),
+    Slot(Answer),
+}
+
+// After a frame was built and its slot passed, whole or missed.
+pub struct Passed {
+    pub bench: Bench,
+    pub outcome: Outcome,
+}
+
 // The next frame is built at a place of the caller's buffer; it is for the caller to make a slot of it, whole or missed.
 pub fn build(bench: Bench, buf: &mut [u8], at: usize) -> Sent
     ensures { λ r. ⌜ (r ≡ builtBench bench (now (buf .entry)) at) × (now (buf .exit) ≡ filledOf (bench .rig) (now (buf .entry)) at) ⌝ }
@@ -27,7 +40,7 @@ pub fn build(bench: Bench, buf: &mut [u8], at: usize) -> Sent
     let desk = bench.desk;
     let b = sending::build(was, buf, at);
     let sent = b.rig;
-    let wrote = b.answer;
+    let wrote = b.wrote;
     Sent {
         bench: Bench { rig: sent, desk },
         wrote,
@@ -60,7 +73,7 @@ pub fn miss(bench: Bench) -> Bench
 }
 
 // The next frame is built at a place of the caller's buffer, and from there handed to the desk whole.
-pub fn arrives(bench: Bench, buf: &mut [u8], at: usize) -> Sent
+pub fn arrives(bench: Bench, buf: &mut [u8], at: usize) -> Passed
     ensures { λ r. ⌜ (r ≡ arrivedBench bench (now (buf .entry)) at) × (now (buf .exit) ≡ filledOf (bench .rig) (now (buf .entry)) at) ⌝ }
 {
     let sent = build(bench, buf, at);
@@ -71,17 +84,21 @@ pub fn arrives(bench: Bench, buf: &mut [u8], at: usize) -> Sent
             let end = at + 40;
             let h = hand(after, &buf[at..end]);
             let next = h.bench;
-            Sent { bench: next, wrote }
+            let answer = h.answer;
+            Passed {
+                bench: next,
+                outcome: Outcome::Slot(answer),
+            }
         }
-        Wrote::Refused(_) => Sent {
+        Wrote::Refused(why) => Passed {
             bench: after,
-            wrote,
+            outcome: Outcome::NoFrame(why),
         },
     }
 }
 
 // The next frame is built at a place of the caller's buffer, and its slot is marked missed. Where there is no room (18) no slot passes.
-pub fn lost(bench: Bench, buf: &mut [u8], at: usize) -> Sent
+pub fn lost(bench: Bench, buf: &mut [u8], at: usize) -> Passed
     ensures { λ r. ⌜ (r ≡ lostBench bench (now (buf .entry)) at) × (now (buf .exit) ≡ filledOf (bench .rig) (now (buf .entry)) at) ⌝ }
 {
     let sent = build(bench, buf, at);
@@ -90,11 +107,14 @@ pub fn lost(bench: Bench, buf: &mut [u8], at: usize) -> Sent
     match wrote {
         Wrote::Done => {
             let gone = miss(after);
-            Sent { bench: gone, wrote }
+            Passed {
+                bench: gone,
+                outcome: Outcome::Slot(Answer::Missed),
+            }
         }
-        Wrote::Refused(_) => Sent {
+        Wrote::Refused(why) => Passed {
             bench: after,
-            wrote,
+            outcome: Outcome::NoFrame(why),
         },
     }
 }
