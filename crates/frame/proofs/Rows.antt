@@ -65,7 +65,7 @@ spread-rows P long free k h n =
     (λ p. split (eqb k (rowOf FreeTime)) (λ q. subst P (sym (eqb-true _ _ q)) free) (λ q. absurd (true≢false (sym (each-row k h) ∙ rw (n, p, q)))))
 
 -- every item has a row, and stands in the list there
-abbrev itemAt : ℕ → Item
+abbrev pub itemAt : ℕ → Item
 itemAt k = getD allItems k Parallel
 
 item-test : (x : Item) → T (ltb (rowOf x) items) × (itemAt (rowOf x) ≡ x)
@@ -97,12 +97,15 @@ item-test HeadMask = (tt, refl)
 item-test LongCounter = (tt, refl)
 item-test FreeTime = (tt, refl)
 
+pub item-at : (x : Item) → itemAt (rowOf x) ≡ x
+item-at x = item-test x .1
+
 pub row-lt : (x : Item) → rowOf x < items
 row-lt x = ltb→lt _ _ (item-test x .0)
 
 -- what holds in both rows that are not plain holds of each item that is not
 pub spread-items : (P : Item → Type 0) → P LongCounter → P FreeTime → (x : Item) → isPlain (rowOf x) ≡ false → P x
-spread-items P long free x n = subst P (item-test x .1) (spread-rows (λ k. P (itemAt k)) long free (rowOf x) (row-lt x) n)
+spread-items P long free x n = subst P (item-at x) (spread-rows (λ k. P (itemAt k)) long free (rowOf x) (row-lt x) n)
 
 -- every item but those two is plain
 pub plain-items : (x : Item) → (x ≡ LongCounter → ⊥) → (x ≡ FreeTime → ⊥) → isPlain (rowOf x) ≡ true

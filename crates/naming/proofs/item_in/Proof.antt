@@ -1,0 +1,52 @@
+-- `naming::item_in` meets its contract: each arm has the item of its own row, and past them there is none.
+-- Assumes nothing.
+use mathlib.Core.Path.{_≡_, sym, ap}
+use Prim.Native.Nat.{ℕ, zero, suc, _≤_}
+use native.Mathlib.Omega.{arith}
+use borrow.Author.Tests.{le-ltb}
+use Rattle.frame.specs.Items.{items}
+use Rattle.naming.specs.Names.{itemIn}
+use Rattle.naming.proofs.item_in.Statement.{statement}
+use Rattle.naming.proofs.item_in.Tie as tie
+
+-- what the last arm of a `match` knows: the number is none of the first n
+abbrev None : ℕ → ℕ → Type 0
+None k zero = Unit
+None k (suc n) = None k n × (k ≡ n → ⊥)
+
+none : (k n : ℕ) → None k n → n ≤ k
+none k zero t = omega arith
+none k (suc n) t = let h = none k n (t .0) in let q = t .1 in omega arith
+
+pub item-in-spec : {M : Type 1} → statement M
+item-in-spec =
+    tie.close
+    (tie.spec
+    (λ c. sym (ap itemIn (c .match .keys1)))
+    (λ c. sym (ap itemIn (c .match .keys2)))
+    (λ c. sym (ap itemIn (c .match .keys3)))
+    (λ c. sym (ap itemIn (c .match .keys4)))
+    (λ c. sym (ap itemIn (c .match .keys5)))
+    (λ c. sym (ap itemIn (c .match .keys6)))
+    (λ c. sym (ap itemIn (c .match .keys7)))
+    (λ c. sym (ap itemIn (c .match .keys8)))
+    (λ c. sym (ap itemIn (c .match .keys9)))
+    (λ c. sym (ap itemIn (c .match .keys10)))
+    (λ c. sym (ap itemIn (c .match .keys11)))
+    (λ c. sym (ap itemIn (c .match .keys12)))
+    (λ c. sym (ap itemIn (c .match .keys13)))
+    (λ c. sym (ap itemIn (c .match .keys14)))
+    (λ c. sym (ap itemIn (c .match .keys15)))
+    (λ c. sym (ap itemIn (c .match .keys16)))
+    (λ c. sym (ap itemIn (c .match .keys17)))
+    (λ c. sym (ap itemIn (c .match .keys18)))
+    (λ c. sym (ap itemIn (c .match .keys19)))
+    (λ c. sym (ap itemIn (c .match .keys20)))
+    (λ c. sym (ap itemIn (c .match .keys21)))
+    (λ c. sym (ap itemIn (c .match .keys22)))
+    (λ c. sym (ap itemIn (c .match .keys23)))
+    (λ c. sym (ap itemIn (c .match .keys24)))
+    (λ c. sym (ap itemIn (c .match .keys25)))
+    (λ c. sym (ap itemIn (c .match .keys26)))
+    (λ c. sym (ap itemIn (c .match .keys27)))
+    (λ c. rw (le-ltb _ _ (none (c .before .args .row) items (c .match .rest)))))

@@ -1,0 +1,3 @@
+-- The items by row and by name.
+pub mod Names
+pub mod Laws
