@@ -3,8 +3,8 @@
 use mathlib.Core.Path.{_≡_, refl, sym, ap, subst, _∙_}
 use mathlib.Core.Bool.{Bool, true, false, true≢false, _||_, not}
 use mathlib.Core.List.{List, [], _∷_}
-use Prim.Native.Nat.{ℕ, _≤_, _<_}
-use lib.Dec.{T, eqb, leb, leb→le}
+use Prim.Native.Nat.{ℕ, _<_}
+use lib.Dec.{eqb, eqb→eq}
 use lib.ListN.{length}
 use borrow.Author.Tests.{eqb-true, eq-eqb, lt-ltb, le-ltb}
 use Rattle.base.proofs.Cases.{split}
@@ -44,10 +44,10 @@ apart x y e =
     ap (alike (nameOf (itemAt (rowOf x)))) (sym same) ∙ alike-self (nameOf (itemAt (rowOf x))) in
     absurd (true≢false (sym (rows-differ (rowOf x) (rowOf y) (row-lt x) (row-lt y)) ∙ rw (f, found))))
 
-room : (x : Item) → length (nameOf x) ≤ 16
+pub room : (x : Item) → length (nameOf x) ≡ 16
 room x =
-    subst (λ (y : Item). length (nameOf y) ≤ 16) (item-at x)
-    (leb→le _ _ (below (λ (k : ℕ). leb (length (nameOf (itemAt k))) 16) items tt (rowOf x) (row-lt x)))
+    subst (λ (y : Item). length (nameOf y) ≡ 16) (item-at x)
+    (eqb→eq _ _ (below (λ (k : ℕ). eqb (length (nameOf (itemAt k))) 16) items tt (rowOf x) (row-lt x)))
 
 pub laws : Laws
 laws =
