@@ -1,0 +1,2 @@
+-- The sheet of what a desk shows.
+pub mod Sheeted
