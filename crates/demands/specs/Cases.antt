@@ -49,7 +49,7 @@ abbrev pub Holds : Case → Type 0
 Holds (reply ws w r ns) = (takeOf (after ws) w .reply ≡ r) × (refusalsOf r ≡ ns)
 Holds (byte ws k b) = getD (nextFrame (after ws)) k 0 ≡ b
 Holds (check ws k) = after ws .check ≡ k
-Holds (limit ws n) = after ws .core .supply .limit ≡ n
+Holds (limit ws n) = after ws .core .stop .limit ≡ n
 Holds (count ws n) = after ws .faults .count ≡ n
 Holds (volts d z x) = (biasOf d ≡ z) × ((g : ℕ) (s : Sheet) → Shows d g s → s .bias ≡ x)
 Holds (item x y g) = itemAt (0 ∷ 0 ∷ x ∷ y ∷ []) 0 .good ≡ g

@@ -127,7 +127,7 @@ module _ (c : Core) (n a x b y : ℕ) (ha : a < 0x100) (hx : x < 0x100) (hb : b 
 abbrev ready : Core
 ready =
     record {
-      supply = record { relay = true; stepping = true; level = 0; target = 0; limit = 15 };
+      stop = record { relay = true; stepping = true; level = 0; target = 0; limit = 15 };
       settings = record {
         parallel = false;
         mask = 0;
@@ -143,7 +143,7 @@ digit b = pick b 1 0
 abbrev told : Verdict → ℕ
 told (Deny why) = 0
 told (Apply c) =
-    let s = c .supply in
+    let s = c .stop in
     let x = c .settings .sensor in
     1 + digit (s .relay) + 2 * digit (s .stepping) + 4 * s .target + 64 * s .limit + 1024 * digit (c .settings .parallel) + 2048 * c .settings .mask
     + 16384 * digit (c .settings .iel .clock) + 32768 * digit (c .settings .iel .enable) + 65536 * digit (x .mux .bit)

@@ -19,37 +19,37 @@ use Rattle.judge.specs.declared.Refusal.the-variants.{OutOfRange, WrongC
 use Rattle.judge.specs.Refusals.{raised}
 
 -- the core with one part changed, and nothing else
-abbrev pub withSupply : Core → Supply → Core
-withSupply c s = record { supply = s; settings = c .settings }
+abbrev pub withStop : Core → Supply → Core
+withStop c s = record { stop = s; settings = c .settings }
 
 abbrev pub withParallel : Core → Bool → Core
 withParallel c b =
     let s = c .settings in
-    record { supply = c .supply; settings = record { parallel = b; mask = s .mask; iel = s .iel; sensor = s .sensor } }
+    record { stop = c .stop; settings = record { parallel = b; mask = s .mask; iel = s .iel; sensor = s .sensor } }
 
 abbrev pub withMask : Core → ℕ → Core
 withMask c m =
     let s = c .settings in
-    record { supply = c .supply; settings = record { parallel = s .parallel; mask = m; iel = s .iel; sensor = s .sensor } }
+    record { stop = c .stop; settings = record { parallel = s .parallel; mask = m; iel = s .iel; sensor = s .sensor } }
 
 abbrev pub withIel : Core → Iel → Core
 withIel c i =
     let s = c .settings in
-    record { supply = c .supply; settings = record { parallel = s .parallel; mask = s .mask; iel = i; sensor = s .sensor } }
+    record { stop = c .stop; settings = record { parallel = s .parallel; mask = s .mask; iel = i; sensor = s .sensor } }
 
 abbrev pub withSensor : Core → Sensor → Core
 withSensor c x =
     let s = c .settings in
-    record { supply = c .supply; settings = record { parallel = s .parallel; mask = s .mask; iel = s .iel; sensor = x } }
+    record { stop = c .stop; settings = record { parallel = s .parallel; mask = s .mask; iel = s .iel; sensor = x } }
 
 -- what the supply answers is the verdict
 unfoldable pub carried : Core → Change → Verdict
-carried c (Done s) = Apply (withSupply c s)
+carried c (Done s) = Apply (withStop c s)
 carried c (Refused why) = Deny (raised why)
 
 -- single 08h relay: bit 1 on, bit 5 off; both or neither: 0Bh. Off sets level and target to 0
 abbrev pub relayCmd : Core → ℕ → Verdict
-relayCmd c low = carried c (relayed (c .supply) low)
+relayCmd c low = carried c (relayed (c .stop) low)
 
 -- single 0Ch: bit 0 IEL clock, bit 1 IEL enable
 abbrev pub ielCmd : Core → ℕ → Verdict
@@ -61,11 +61,11 @@ maskCmd c low = Apply (withMask c (low % 8))
 
 -- single 28h: bits 3-0 new target; relay off 04h, stepping disabled 05h, target > limit 06h
 abbrev pub targetCmd : Core → ℕ → Verdict
-targetCmd c low = carried c (targeted (c .supply) low)
+targetCmd c low = carried c (targeted (c .stop) low)
 
 -- single 29h: bits 3-0 new limit; level ≠ target 0Ch, limit > 15 0Dh. Target becomes the smaller of target and limit
 abbrev pub limitCmd : Core → ℕ → Verdict
-limitCmd c low = carried c (limited (c .supply) low)
+limitCmd c low = carried c (limited (c .stop) low)
 
 -- single 2Bh: 0 serial, 1 parallel; other 0Dh
 unfoldable pub modeCmd : Core → ℕ → Verdict
@@ -73,7 +73,7 @@ modeCmd c low = pick (eqb low 0) (Apply (withParallel c false)) (pick (eqb low 1
 
 -- single 2Dh: stepping 0 off, 1 on; other 0Dh
 abbrev pub steppingCmd : Core → ℕ → Verdict
-steppingCmd c low = carried c (switched (c .supply) low)
+steppingCmd c low = carried c (switched (c .stop) low)
 
 -- the singles; an unknown single is 0Fh
 unfoldable pub singleOf : Core → ℕ → ℕ → Verdict

@@ -38,7 +38,7 @@ pub struct Settings {
 
 // What commands move. It holds no array, so an enum can hold it.
 pub struct Core {
-    pub supply: Supply,
+    pub stop: Supply,
     pub settings: Settings,
 }
 
@@ -100,7 +100,7 @@ fn carry(core: Core, ch: Change) -> Verdict
     match ch {
         Change::Done(s) => {
             let mut next = core;
-            next.supply = s;
+            next.stop = s;
             Verdict::Apply(next)
         }
         Change::Refused(why) => Verdict::Deny(raise(why)),
@@ -110,7 +110,7 @@ fn carry(core: Core, ch: Change) -> Verdict
 fn set_relay(core: Core, low: u8) -> Verdict
     ensures { λ r. ⌜ r ≡ relayCmd core low ⌝ }
 {
-    let was = core.supply;
+    let was = core.stop;
     carry(core, supply::set_relay(was, low))
 }
 
@@ -141,14 +141,14 @@ fn set_mask(core: Core, low: u8) -> Verdict
 fn set_target(core: Core, low: u8) -> Verdict
     ensures { λ r. ⌜ r ≡ targetCmd core low ⌝ }
 {
-    let was = core.supply;
+    let was = core.stop;
     carry(core, supply::set_target(was, low))
 }
 
 fn set_limit(core: Core, low: u8) -> Verdict
     ensures { λ r. ⌜ r ≡ limitCmd core low ⌝ }
 {
-    let was = core.supply;
+    let was = core.stop;
     carry(core, supply::set_limit(was, low))
 }
 
@@ -175,7 +175,7 @@ fn set_mode(core: Core, low: u8) -> Verdict
 fn set_stepping(core: Core, low: u8) -> Verdict
     ensures { λ r. ⌜ r ≡ steppingCmd core low ⌝ }
 {
-    let was = core.supply;
+    let was = core.stop;
     carry(core, supply::set_stepping(was, low))
 }
 

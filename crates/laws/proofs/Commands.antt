@@ -34,14 +34,14 @@ pub record Fit (s : Supply) (m b : ℕ) (d e : Window) : Type 0 where
   pub energy : WindowFits e
 
 abbrev pub CoreFits : Core → Type 0
-CoreFits c = let x = c .settings .sensor in Fit (c .supply) (c .settings .mask) (x .mux .byte) (x .direction) (x .energy)
+CoreFits c = let x = c .settings .sensor in Fit (c .stop) (c .settings .mask) (x .mux .byte) (x .direction) (x .energy)
 
 -- the core that a verdict applies, if it does, fits
 abbrev pub Keeps : Verdict → Type 0
 Keeps (Apply d) = CoreFits d
 Keeps (Deny why) = Unit {0}
 
-supply-fits : (c : Core) (s : Supply) → CoreFits c → Safe s → Quiet s → CoreFits (record { supply = s; settings = c .settings })
+supply-fits : (c : Core) (s : Supply) → CoreFits c → Safe s → Quiet s → CoreFits (record { stop = s; settings = c .settings })
 supply-fits c s h safe quiet = record { safe = safe; quiet = quiet; mask = h .mask; mux = h .mux; direction = h .direction; energy = h .energy }
 
 carried-keeps : (c : Core) (ch : Change) → CoreFits c → SafeChange ch → QuietChange ch → Keeps (carried c ch)
@@ -53,13 +53,13 @@ mode-keeps : (c : Core) (low : ℕ) → CoreFits c → Keeps (modeCmd c low)
 unfolding modeCmd
 mode-keeps c low h = by-test Keeps (eqb low 0) (λ e. h) (λ e. by-test Keeps (eqb low 1) (λ f. h) (λ f. tt))
 
-mask-fits : (c : Core) (low : ℕ) → CoreFits c → Fit (c .supply) (low % 8) (c .settings .sensor .mux .byte) (c .settings .sensor .direction) (c .settings .sensor .energy)
+mask-fits : (c : Core) (low : ℕ) → CoreFits c → Fit (c .stop) (low % 8) (c .settings .sensor .mux .byte) (c .settings .sensor .direction) (c .settings .sensor .energy)
 mask-fits c low h = record { safe = h .safe; quiet = h .quiet; mask = omega arith; mux = h .mux; direction = h .direction; energy = h .energy }
 
 pub single-keeps : (c : Core) (code low : ℕ) → CoreFits c → Keeps (singleOf c code low)
 unfolding singleOf
 single-keeps c code low h =
-    let s = c .supply in
+    let s = c .stop in
     by-test Keeps (eqb code 0x08) (λ e. carried-keeps c (relayed s low) h (relayed-safe s low (h .safe)) (relayed-quiet s low (h .quiet))) (λ e.
     by-test Keeps (eqb code 0x0C) (λ e. h) (λ e.
     by-test Keeps (eqb code 0x26) (λ e. mask-fits c low h) (λ e.

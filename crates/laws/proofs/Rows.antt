@@ -59,10 +59,10 @@ row code h rule tells results told When is alone cmd r low l i =
 -- a row of the supply: its table is the supply's, and says exactly when each answer is given
 supply-row : (code : ℕ) → code < 64 → (rule : Supply → ℕ → Change) (When : Supply → ℕ → Change → Type 0)
     → ((s : Supply) (low : ℕ) (ch : Change) → (rule s low ≡ ch) ↔ When s low ch)
-    → ((c : Core) (low : ℕ) → singleOf c code low ≡ carried c (rule (c .supply) low)) → SupplyRow takeOf code When
+    → ((c : Core) (low : ℕ) → singleOf c code low ≡ carried c (rule (c .stop) low)) → SupplyRow takeOf code When
 supply-row code h rule When when cmd =
-    row code h (λ c low. rule (c .supply) low) carried supplied supplied-is (λ c low. When (c .supply) low)
-    (λ c low. when (c .supply) low (rule (c .supply) low) .0 refl) (λ c low x w. sym (when (c .supply) low x .1 w)) cmd
+    row code h (λ c low. rule (c .stop) low) carried supplied supplied-is (λ c low. When (c .stop) low)
+    (λ c low. when (c .stop) low (rule (c .stop) low) .0 refl) (λ c low x w. sym (when (c .stop) low x .1 w)) cmd
 
 -- a row of the settings
 setting-row : (code : ℕ) → code < 64 → (rule : Core → ℕ → Verdict) (When : Core → ℕ → Verdict → Type 0)

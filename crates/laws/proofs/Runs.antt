@@ -111,7 +111,7 @@ after-inv r l spin i =
       holds = i .holds;
       check = i .check;
       byte = i .byte;
-      fits = (record { safe = stepped-safe (r .core .supply) (c .safe); quiet = stepped-quiet (r .core .supply) (c .quiet); mask = c .mask; mux = c .mux; direction = c .direction; energy = c .energy }, i .fits .1);
+      fits = (record { safe = stepped-safe (r .core .stop) (c .safe); quiet = stepped-quiet (r .core .stop) (c .quiet); mask = c .mask; mux = c .mux; direction = c .direction; energy = c .energy }, i .fits .1);
       panel = i .panel;
       sending = i .sending;
     }
@@ -192,8 +192,8 @@ widths r b =
     let parallel = bit-small (s .parallel) in
     let enable = bit-small (s .iel .enable) in
     let clock = bit-small (s .iel .clock) in
-    let relay = bit-small (r .core .supply .relay) in
-    let stepping = bit-small (r .core .supply .stepping) in
+    let relay = bit-small (r .core .stop .relay) in
+    let stepping = bit-small (r .core .stop .stepping) in
     let flap1 = bit-small (p .flap1) in
     let flap2 = bit-small (p .flap2) in
     let flap3 = bit-small (p .flap3) in
@@ -227,6 +227,6 @@ run-laws =
       widths = λ es. widths (reached ours es) (bounded (always es));
       set = set-moves;
       sent = λ r. record { next = refl; latch = refl; panel = refl; kept = all-kept r (r .panel) _ };
-      spin = λ r. record { supply = spin-moves (r .core .supply); edbs = refl; settings = refl; faults = refl; pending = refl; check = refl; panel = refl; sending = refl };
+      spin = λ r. record { stop = spin-moves (r .core .stop); edbs = refl; settings = refl; faults = refl; pending = refl; check = refl; panel = refl; sending = refl };
       cut = λ r. refl;
     }

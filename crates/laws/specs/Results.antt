@@ -94,5 +94,5 @@ outcome r high (Apply c) = accepted r c
 outcome r high (Deny why) = refused r high why
 
 abbrev pub supplied : Rig → ℕ → Change → Taken
-supplied r high (supply.Done s) = accepted r (record { supply = s; settings = r .core .settings })
+supplied r high (supply.Done s) = accepted r (record { stop = s; settings = r .core .settings })
 supplied r high (supply.Refused why) = refused r high (raised why)

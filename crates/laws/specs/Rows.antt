@@ -46,7 +46,7 @@ pub record ExactlyOne {A : Type 0} (P Q : A → Type 0) : Type 0 where
 abbrev pub SupplyRow : (Rig → ℕ → Taken) → ℕ → (Supply → ℕ → Change → Type 0) → Type 0
 SupplyRow take code when =
     (r : Rig) (low : ℕ) → low < 256 → Idle r
-    → ExactlyOne (when (r .core .supply) low) (λ ch. take r (single code low) ≡ supplied r code ch)
+    → ExactlyOne (when (r .core .stop) low) (λ ch. take r (single code low) ≡ supplied r code ch)
 
 -- a row of the settings: 0Ch, 26h, 2Bh
 abbrev pub SettingRow : (Rig → ℕ → Taken) → ℕ → (Core → ℕ → Verdict → Type 0) → Type 0
@@ -55,7 +55,7 @@ SettingRow take code when =
 
 -- the core with other settings, and the supply as it was
 abbrev pub withSettings : Core → Settings → Core
-withSettings c s = record { supply = c .supply; settings = s }
+withSettings c s = record { stop = c .stop; settings = s }
 
 -- single 0Ch: bit 0 IEL clock, bit 1 IEL enable; nothing else moves
 abbrev pub IelWhen : Core → ℕ → Verdict → Type 0

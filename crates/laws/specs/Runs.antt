@@ -182,10 +182,10 @@ oneOf (x ∷ xs) n = eqb n x || oneOf xs n
 -- the bounds of every field
 pub record Bounds (r : Rig) : Type 0 where
   -- the supply: target ≤ limit ≤ 15, level ≤ 15; nothing stands while the relay is off
-  pub target : r .core .supply .target ≤ r .core .supply .limit
-  pub limit : r .core .supply .limit ≤ 15
-  pub level : r .core .supply .level ≤ 15
-  pub off : Quiet (r .core .supply)
+  pub target : r .core .stop .target ≤ r .core .stop .limit
+  pub limit : r .core .stop .limit ≤ 15
+  pub level : r .core .stop .level ≤ 15
+  pub off : Quiet (r .core .stop)
   -- the settings
   pub mask : r .core .settings .mask ≤ 7
   pub mux : r .core .settings .sensor .mux .byte < 0x100
@@ -218,7 +218,7 @@ pub record Bounds (r : Rig) : Type 0 where
 -- the rig q after a spin of the rig r: the supply's level goes one towards its target if relay and stepping are on, the counter adds one;
 -- nothing else moves
 pub record Spun (r q : Rig) : Type 0 where
-  pub supply : SpinMoves (r .core .supply) (q .core .supply)
+  pub stop : SpinMoves (r .core .stop) (q .core .stop)
   pub edbs : q .edbs ≡ spinMore (r .edbs)
   pub settings : q .core .settings ≡ r .core .settings
   pub faults : q .faults ≡ r .faults

@@ -2,7 +2,7 @@
 -- Assumes nothing.
 use Rattle.base.specs.Counts.{spinMore}
 use Rattle.supply.specs.Rules.{stepped}
-use Rattle.judge.specs.Commands.{withSupply}
+use Rattle.judge.specs.Commands.{withStop}
 use Rattle.rig.specs.declared.Panel.{Panel}
 use Rattle.rig.specs.declared.Rig.{Rig}
 use Rattle.rig.specs.Start.{startRig}
@@ -13,7 +13,7 @@ use Rattle.power.specs.declared.PanelSetting.the-variants.{Bias, Ground,
 abbrev pub spunOf : Rig → Rig
 spunOf r =
     record {
-      core = withSupply (r .core) (stepped (r .core .supply));
+      core = withStop (r .core) (stepped (r .core .stop));
       faults = r .faults;
       pending = r .pending;
       check = r .check;

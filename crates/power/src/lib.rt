@@ -25,9 +25,9 @@ pub fn spin(rig: Rig) -> Rig
     ensures { λ r. ⌜ r ≡ spunOf rig ⌝ }
 {
     let mut core = rig.core;
-    let was = core.supply;
+    let was = core.stop;
     let s = supply::spun(was);
-    core.supply = s;
+    core.stop = s;
     let edbs = base::spin_more(rig.edbs);
     let mut next = rig;
     next.core = core;

@@ -121,7 +121,7 @@ fn nothing() -> Pending
 fn start_core() -> Core
     ensures { λ r. ⌜ r ≡ startCore ⌝ }
 {
-    let supply = Supply {
+    let stop = Supply {
         relay: false,
         stepping: false,
         level: 0,
@@ -146,7 +146,7 @@ fn start_core() -> Core
         },
         sensor,
     };
-    Core { supply, settings }
+    Core { stop, settings }
 }
 
 // The start, to which a power cut returns.

@@ -21,7 +21,7 @@ abbrev pub heldOf : Rig → Held
 heldOf r =
     let settings = r .core .settings in
     let sensor = settings .sensor in
-    let supply = r .core .supply in
+    let supply = r .core .stop in
     record {
       parallel = bit (settings .parallel);
       mux1 = sensor .mux .byte % 2;
