@@ -12,14 +12,14 @@ use Rattle.base.specs.Pick.{pick}
 use Rattle.base.proofs.Table.{allBelow, below}
 use Rattle.supply.specs.declared.Refusal.{Refusal as SupplyRefusal}
 use Rattle.supply.specs.declared.Refusal.the-variants as supply
-use Rattle.supply.specs.Rules.{relayed, targeted, limited, switched, numberOf as supplyNumberOf}
+use Rattle.supply.specs.Rules.{relayOf, targeted, limited, switched, numberOf as supplyNumberOf}
 use Rattle.judge.specs.declared.Core.{Core}
 use Rattle.judge.specs.declared.Refusal.{Refusal}
 use Rattle.judge.specs.declared.Refusal.the-variants.{RelayOff, Disabled, OverLimit, StrayWord, RelayBits, WrongCheck, Unsettled, OutOfRange, WrongCount, UnknownCode}
 use Rattle.judge.specs.declared.Verdict.{Verdict}
 use Rattle.judge.specs.declared.Verdict.the-variants.{Apply, Deny}
 use Rattle.judge.specs.Refusals.{numberOf, raised}
-use Rattle.judge.specs.Commands.{carried, relayCmd, ielCmd, maskCmd, targetCmd, limitCmd, modeCmd, steppingCmd, singleOf, muxSet, directionSet, energySet, countedOf, blockOf}
+use Rattle.judge.specs.Commands.{carried, relayCmd, ielCmd, maskCmd, targetCmd, limitCmd, modeCmd, steppingCmd, singleOf, muxCmd, directionCmd, energyCmd, countedOf, blockOf}
 use Rattle.judge.specs.Table.{singles, blocks, NoneOf, named, named2, Agree, has, TableLaws}
 
 between : (r : Refusal) → ((0x04 ≤ numberOf r) × (numberOf r ≤ 0x06)) ⊎ ((0x0B ≤ numberOf r) × (numberOf r ≤ 0x0F))
@@ -66,7 +66,7 @@ row P false f g h = g h
 
 module _ (c : Core) (a b : ℕ) (ha : a < 0x100) (hb : b < 0x100) where
   relay-same : Agree (named 0x08) a b → relayCmd c a ≡ relayCmd c b
-  unfolding relayed
+  unfolding relayOf
   relay-same e = simp (reads (named 0x08) (λ x. x / 2 % 2) tt a b ha hb e, reads (named 0x08) (λ x. x / 32 % 2) tt a b ha hb e)
 
   iel-same : Agree (named 0x0C) a b → ielCmd c a ≡ ielCmd c b
@@ -106,21 +106,21 @@ module _ (c : Core) (n a x b y : ℕ) (ha : a < 0x100) (hx : x < 0x100) (hb : b 
   abbrev Both : ℕ × ℕ → Type 0
   Both m = Agree (m .0) a b × Agree (m .1) x y
 
-  mux-same : Both (named2 0x20) → muxSet c a x ≡ muxSet c b y
+  mux-same : Both (named2 0x20) → muxCmd c n a x ≡ muxCmd c n b y
   mux-same e = simp (reads (named2 0x20 .0) (λ z. z) tt a b ha hb (e .0), reads (named2 0x20 .1) (λ z. z % 2) tt x y hx hy (e .1))
 
-  direction-same : Both (named2 0x23) → directionSet c a x ≡ directionSet c b y
+  direction-same : Both (named2 0x23) → directionCmd c n a x ≡ directionCmd c n b y
   direction-same e = simp (reads (named2 0x23 .0) (λ z. z % 32) tt a b ha hb (e .0), reads (named2 0x23 .1) (λ z. z % 32) tt x y hx hy (e .1))
 
-  energy-same : Both (named2 0x24) → energySet c a x ≡ energySet c b y
+  energy-same : Both (named2 0x24) → energyCmd c n a x ≡ energyCmd c n b y
   energy-same e = simp (reads (named2 0x24 .0) (λ z. z % 32) tt a b ha hb (e .0), reads (named2 0x24 .1) (λ z. z % 32) tt x y hx hy (e .1))
 
   ignored-both : (code : ℕ) → Both (named2 code) → blockOf c code n a x ≡ blockOf c code n b y
   unfolding blockOf
   ignored-both code =
-      row Both (eqb code 0x20) (λ e. ap (countedOf n) (mux-same e)) (
-      row Both (eqb code 0x23) (λ e. ap (countedOf n) (direction-same e)) (
-      row Both (eqb code 0x24) (λ e. ap (countedOf n) (energy-same e)) (
+      row Both (eqb code 0x20) mux-same (
+      row Both (eqb code 0x23) direction-same (
+      row Both (eqb code 0x24) energy-same (
       λ _. refl)))
 
 -- A core at which every command may be accepted: relay and stepping on, limit 15.
@@ -169,7 +169,7 @@ module _ (mask : ℕ → ℕ) (none some : ℕ → ℕ → Verdict) (t : Tested 
       contra false b p q z = true≢false (sym p)
 
 test : Tested named (λ c j. singleOf ready c 0) (λ c j. singleOf ready c (2 ^ j))
-unfolding singleOf carried relayed targeted limited switched modeCmd
+unfolding singleOf carried relayOf targeted limited switched modeCmd
 test = tt
 
 test-first : Tested (λ c. named2 c .0) (λ c j. blockOf ready c 2 0 0) (λ c j. blockOf ready c 2 (2 ^ j) 0)

@@ -14,7 +14,7 @@ use Rattle.judge.specs.declared.Refusal.{Refusal}
 use Rattle.judge.specs.declared.Refusal.the-variants.{RelayOff, Disabled, OverLimit, StrayWord, RelayBits, WrongCheck, Unsettled, OutOfRange, WrongCount, UnknownCode}
 use Rattle.judge.specs.declared.Verdict.the-variants.{Deny}
 use Rattle.judge.specs.Refusals.{numberOf, raised}
-use Rattle.judge.specs.Commands.{relayCmd, ielCmd, maskCmd, targetCmd, limitCmd, modeCmd, steppingCmd, singleOf, muxSet, directionSet, energySet, countedOf, blockOf}
+use Rattle.judge.specs.Commands.{relayCmd, ielCmd, maskCmd, targetCmd, limitCmd, modeCmd, steppingCmd, singleOf, muxCmd, directionCmd, energyCmd, blockOf}
 
 -- singles and blocks have separate code lists
 abbrev pub singles : List ℕ
@@ -74,9 +74,9 @@ pub record TableLaws : Type 0 where
   pub stepping : (c : Core) (low : ℕ) → singleOf c 0x2D low ≡ steppingCmd c low
   pub unknown : (c : Core) (code low : ℕ) → NoneOf singles code → singleOf c code low ≡ Deny UnknownCode
   -- each listed block is judged by its own row, and an unknown one is 0Fh, whatever its n
-  pub mux : (c : Core) (n x y : ℕ) → blockOf c 0x20 n x y ≡ countedOf n (muxSet c x y)
-  pub direction : (c : Core) (n x y : ℕ) → blockOf c 0x23 n x y ≡ countedOf n (directionSet c x y)
-  pub energy : (c : Core) (n x y : ℕ) → blockOf c 0x24 n x y ≡ countedOf n (energySet c x y)
+  pub mux : (c : Core) (n x y : ℕ) → blockOf c 0x20 n x y ≡ muxCmd c n x y
+  pub direction : (c : Core) (n x y : ℕ) → blockOf c 0x23 n x y ≡ directionCmd c n x y
+  pub energy : (c : Core) (n x y : ℕ) → blockOf c 0x24 n x y ≡ energyCmd c n x y
   pub unknown2 : (c : Core) (code n x y : ℕ) → NoneOf blocks code → blockOf c code n x y ≡ Deny UnknownCode
   -- bits not named are ignored: bytes that agree on the named bits get the same verdict
   pub ignored : (c : Core) (code a b : ℕ) → a < 0x100 → b < 0x100 → Agree (named code) a b → singleOf c code a ≡ singleOf c code b

@@ -19,7 +19,6 @@ use Rattle.rig.specs.declared.Rig.{Rig}
 use Rattle.rig.specs.declared.Answer.the-variants.{Accepted, Waiting, Refused}
 use Rattle.rig.specs.declared.Reply.{Reply}
 use Rattle.rig.specs.declared.Reply.the-variants.{Plain, Swallowed, Dropped}
-use Rattle.rig.specs.declared.Judgement.{Judgement}
 use Rattle.rig.specs.declared.Taken.{Taken}
 use Rattle.rig.specs.Words.{nothingPending, newBlock, oneMore, settledOf, refusedOf}
 use Rattle.rig.specs.Replies.{refusalsOf}
@@ -65,7 +64,7 @@ more-fits p low w k l h =
 abbrev pub Fits : Rig → Type 0
 Fits r = CoreFits (r .core) × PendingFits (r .pending)
 
-fresh-fits : {r : Rig} {high low : ℕ} {j : Judgement} → Fresh r high low j → high < 0x100 → Fits r → Fits (j .rig)
+fresh-fits : {r : Rig} {high low : ℕ} {t : Taken} → Fresh r high low t → high < 0x100 → Fits r → Fits (t .rig)
 unfolding settledOf refusedOf
 fresh-fits (judged (Apply c) k) a h = (k (h .0), h .1)
 fresh-fits (judged (Deny why) k) a h = h

@@ -5,7 +5,7 @@ use mathlib.Core.Path.{_≡_, refl, ap}
 use mathlib.Core.List.{List, [], _∷_}
 use native.Mathlib.Omega.{arith}
 use lib.ListN.{replicate}
-use Rattle.supply.specs.Rules.{relayed, targeted}
+use Rattle.supply.specs.Rules.{relayOf, targeted}
 use Rattle.crc.specs.Crc.{shift, crcFrom, crcOf}
 use Rattle.judge.specs.declared.Refusal.{Refusal}
 use Rattle.judge.specs.declared.Refusal.the-variants.{StrayWord}
@@ -53,7 +53,7 @@ runs :
     × (left (send 0x6402 ∷ send 0xA401 ∷ send 0xA400 ∷ send 0xE415 ∷ []) ≡ 0 ∷ 0x00 ∷ 0xFF ∷ 0x15 ∷ [])
     × (left (send 0x6402 ∷ send 0xA401 ∷ send 0xA400 ∷ send 0xE407 ∷ []) ≡ 1 ∷ 0x0B ∷ 0x64 ∷ 0x15 ∷ [])
     × (left (send 0x6402 ∷ send 0xA401 ∷ send 0xE415 ∷ []) ≡ 1 ∷ 0x03 ∷ 0x64 ∷ 0x00 ∷ [])
-unfolding run ledger takeOf pendingOf droppedOf closedOf verdictOf freshOf headOf settledOf refusedOf kindOf singleOf blockOf countedOf carried relayed targeted crcOf crcFrom shift
+unfolding run ledger takeOf pendingOf droppedOf closedOf verdictOf freshOf headOf settledOf refusedOf kindOf singleOf blockOf countedOf carried relayOf targeted crcOf crcFrom shift
 runs = (refl, refl, refl, refl, refl, refl, refl, refl, refl, refl, refl)
 
 -- 0C00 at the start is accepted, 8000 is refused 0Bh, by every function under the laws

@@ -19,6 +19,7 @@ use Rattle.rig.specs.declared.Answer.the-variants.{Accepted, Waiting, Refused}
 use Rattle.rig.specs.declared.Reply.{Reply}
 use Rattle.rig.specs.declared.Reply.the-variants.{Plain, Swallowed, Dropped}
 use Rattle.rig.specs.declared.Taken.{Taken}
+use Rattle.rig.specs.Records.{withCore, withFaults, withPending, withCheck}
 use Rattle.rig.specs.Words.{highOf, lowOf, kindOf, settledOf, refusedOf, freshOf, afterDrop, dropped, droppedOf, pendingOf, takeOf}
 use Rattle.rig.specs.Replies.{refusalsOf}
 use Rattle.laws.specs.Results.{droppedRig}
@@ -29,7 +30,7 @@ use Rattle.laws.proofs.Words.{takes, judged, begun, Case, idle, kept, c
 
 -- a rig in which nothing but core, faults, pending block and last check may differ
 alike : (r : Rig) (c : Core) (f : Faults) (p : Pending) (k : ℕ)
-    → Apart r (record { core = c; faults = f; pending = p; check = k; panel = r .panel; sending = r .sending; edbs = r .edbs })
+    → Apart r (withCheck (withPending (withFaults (withCore r c) f) p) k)
 alike r c f p k = record { panel = refl; sending = refl; edbs = refl }
 
 -- what the reply's kind lets move, what no word moves, and the last check

@@ -15,9 +15,10 @@ use Rattle.frame.specs.Items.{heldAt}
 use Rattle.frame.specs.Read.{remOf}
 use Rattle.rig.specs.declared.Panel.{Panel}
 use Rattle.power.specs.declared.PanelSetting.{PanelSetting}
-use Rattle.power.specs.declared.PanelSetting.the-variants.{Bias, Ground, FreeTime, Flaps}
+use Rattle.power.specs.declared.PanelSetting.the-variants.{Bias, Ground, FreeTime, Flap1, Flap2, Flap3}
 use Rattle.rig.specs.declared.Sending.{Sending}
 use Rattle.rig.specs.declared.Rig.{Rig}
+use Rattle.rig.specs.Records.{withPanel, withSending}
 use Rattle.rig.specs.Words.{highOf, lowOf, takeOf}
 use Rattle.rig.specs.Replies.{refusalsOf}
 use Rattle.rig.specs.Start.{startRig}
@@ -98,7 +99,9 @@ panel-set : (p : Panel) (s : PanelSetting) → FitsPanel s → PanelFits p → P
 panel-set p (Bias b) k h = record { bias = k; ground = h .ground; free = h .free }
 panel-set p (Ground b) k h = record { bias = h .bias; ground = k; free = h .free }
 panel-set p (FreeTime t) k h = record { bias = h .bias; ground = h .ground; free = k }
-panel-set p (Flaps a b c) k h = record { bias = h .bias; ground = h .ground; free = h .free }
+panel-set p (Flap1 b) k h = record { bias = h .bias; ground = h .ground; free = h .free }
+panel-set p (Flap2 b) k h = record { bias = h .bias; ground = h .ground; free = h .free }
+panel-set p (Flap3 b) k h = record { bias = h .bias; ground = h .ground; free = h .free }
 
 after-inv : (r : Rig) (l : Ledger) (e : Event) → Inv r l → Inv (after ours r e) (entered ours r e l)
 unfolding setOf
@@ -203,10 +206,12 @@ pub panel-is : (p : Panel) (s : PanelSetting) → panelOf p s ≡ panelBy p s
 panel-is p (Bias b) = refl
 panel-is p (Ground b) = refl
 panel-is p (FreeTime t) = refl
-panel-is p (Flaps a b c) = refl
+panel-is p (Flap1 b) = refl
+panel-is p (Flap2 b) = refl
+panel-is p (Flap3 b) = refl
 
 all-kept : (r : Rig) (p : Panel) (s : Sending)
-    → Kept r (record { core = r .core; faults = r .faults; pending = r .pending; check = r .check; panel = p; sending = s; edbs = r .edbs })
+    → Kept r (withSending (withPanel r p) s)
 all-kept r p s = record { core = refl; faults = refl; pending = refl; check = refl; edbs = refl }
 
 set-moves : (r : Rig) (s : PanelSetting) → SetMoves r s (setOf r s)

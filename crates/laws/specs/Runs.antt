@@ -14,7 +14,7 @@ use Rattle.frame.specs.Read.{remOf}
 use Rattle.judge.specs.Refusals.{numberOf}
 use Rattle.supply.specs.Laws.{Quiet, SpinMoves}
 use Rattle.power.specs.declared.PanelSetting.{PanelSetting}
-use Rattle.power.specs.declared.PanelSetting.the-variants.{Bias, Ground, FreeTime, Flaps}
+use Rattle.power.specs.declared.PanelSetting.the-variants.{Bias, Ground, FreeTime, Flap1, Flap2, Flap3}
 use Rattle.rig.specs.declared.Rig.{Rig}
 use Rattle.rig.specs.declared.Answer.the-variants.{Accepted, Waiting, Refused}
 use Rattle.rig.specs.declared.Reply.{Reply}
@@ -22,6 +22,7 @@ use Rattle.rig.specs.declared.Reply.the-variants.{Plain, Swallowed, Dropped}
 use Rattle.rig.specs.declared.Taken.{Taken}
 use Rattle.rig.specs.declared.Panel.{Panel}
 use Rattle.rig.specs.declared.Pending.{Pending}
+use Rattle.rig.specs.Records.{withBias, withGround, withFree, withFlap1, withFlap2, withFlap3}
 use Rattle.rig.specs.Words.{takeOf}
 use Rattle.rig.specs.Replies.{refusalsOf}
 use Rattle.rig.specs.Start.{startRig}
@@ -30,12 +31,14 @@ use Rattle.sending.specs.Sending.{heldOf, sent}
 use Rattle.laws.specs.Results.{none}
 use Rattle.laws.specs.Blocks.{holding}
 
--- a setting is a byte, a 16-bit number or three switches
+-- a setting is a byte, a 16-bit number or a switch
 abbrev pub FitsPanel : PanelSetting → Type 0
 FitsPanel (Bias b) = b < 0x100
 FitsPanel (Ground b) = b < 0x100
 FitsPanel (FreeTime t) = t < 0x10000
-FitsPanel (Flaps a b c) = Unit {0}
+FitsPanel (Flap1 b) = Unit {0}
+FitsPanel (Flap2 b) = Unit {0}
+FitsPanel (Flap3 b) = Unit {0}
 
 -- what can happen to a rig: a word of 16 bits, a spin, a setting, a power cut, a frame built
 pub data Event : Type 0 where
@@ -229,10 +232,12 @@ pub record Spun (r q : Rig) : Type 0 where
 
 -- the panel after a setting: that part of it alone
 abbrev pub panelBy : Panel → PanelSetting → Panel
-panelBy p (Bias b) = record { bias = b; ground = p .ground; free = p .free; flap1 = p .flap1; flap2 = p .flap2; flap3 = p .flap3 }
-panelBy p (Ground b) = record { bias = p .bias; ground = b; free = p .free; flap1 = p .flap1; flap2 = p .flap2; flap3 = p .flap3 }
-panelBy p (FreeTime t) = record { bias = p .bias; ground = p .ground; free = t; flap1 = p .flap1; flap2 = p .flap2; flap3 = p .flap3 }
-panelBy p (Flaps a b c) = record { bias = p .bias; ground = p .ground; free = p .free; flap1 = a; flap2 = b; flap3 = c }
+panelBy p (Bias b) = withBias p b
+panelBy p (Ground b) = withGround p b
+panelBy p (FreeTime t) = withFree p t
+panelBy p (Flap1 b) = withFlap1 p b
+panelBy p (Flap2 b) = withFlap2 p b
+panelBy p (Flap3 b) = withFlap3 p b
 
 -- what neither a setting nor a frame moves
 pub record Kept (r q : Rig) : Type 0 where
