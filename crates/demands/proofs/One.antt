@@ -183,7 +183,7 @@ one-rig o one two =
     let frame = two .frame in
     record {
       start = two .start;
-      take = λ r w. laws.one-rig (o .rig .take) takeOf (two .rows) (one .words) row-laws reply-laws r w;
+      take = λ r w. laws.one-take (o .rig .take) takeOf (two .rows) (one .words) row-laws reply-laws r w;
       spin = λ r. spin-is r (o .rig .spin r) (two .runs .spin r);
       set = λ r s. set-is r s (o .rig .set r s) (two .runs .set r s);
       cut = λ r. two .runs .cut r ∙ two .start;

@@ -96,10 +96,10 @@ cases =
     ∷ []
 
 -- every case of the table holds
-abbrev pub Every : List Case → Type 0
-Every [] = Unit {0}
-Every (c ∷ cs) = Holds c × Every cs
+abbrev pub EveryCase : List Case → Type 0
+EveryCase [] = Unit {0}
+EveryCase (c ∷ cs) = Holds c × EveryCase cs
 
 -- the bench cases of 01, together
 abbrev pub AllCases : Type 0
-AllCases = Every cases
+AllCases = EveryCase cases

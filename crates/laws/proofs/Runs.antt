@@ -1,4 +1,4 @@
--- What every run keeps (specs/Runs): one invariant of the rig and its ledger, kept by each event; a run is an induction over its events.
+-- What every run keeps (specs/Runs): one invariant of the rig and its ledger, kept by each happening; a run is an induction over its happenings.
 -- Assumes nothing.
 use Prim.Native.Nat.{ℕ, zero, suc, _+_, _/_, _%_, _<_, _≤_}
 use mathlib.Core.Path.{_≡_, refl, ap, sym, subst, _∙_}
@@ -25,7 +25,7 @@ use Rattle.rig.specs.Start.{startRig}
 use Rattle.power.specs.Power.{panelOf, setOf}
 use Rattle.sending.specs.Sending.{heldOf, bit, nextLatch}
 use Rattle.laws.specs.Replies.{closing}
-use Rattle.laws.specs.Runs.{FitsPanel, Event, word, spin, set, cut, frame, ours, after, run, heldAs, Ledger, blank, latestError, latestCode, entered, ledger, reached, given, Bounds, panelBy, Kept, SetMoves, RunLaws}
+use Rattle.laws.specs.Runs.{FitsPanel, Happening, word, spin, set, cut, frame, ours, happened, run, heldAs, Ledger, nothingGiven, latestError, latestCode, entered, ledger, reached, given, Bounds, panelBy, Kept, SetMoves, RunLaws}
 use Rattle.laws.proofs.Tests.{by-test}
 use Rattle.laws.proofs.Words.{case}
 use Rattle.laws.proofs.Replies.{reply-laws}
@@ -51,7 +51,7 @@ record Inv (r : Rig) (l : Ledger) : Type 0 where
   panel : PanelFits (r .panel)
   sending : SendingFits (r .sending)
 
-start-inv : Inv startRig blank
+start-inv : Inv startRig nothingGiven
 start-inv =
     record {
       told = record { count = refl; error = refl; last = refl; small = omega arith; known = refl; fits = omega arith };
@@ -103,7 +103,7 @@ panel-set p (Flap1 b) k h = record { bias = h .bias; ground = h .ground; free = 
 panel-set p (Flap2 b) k h = record { bias = h .bias; ground = h .ground; free = h .free }
 panel-set p (Flap3 b) k h = record { bias = h .bias; ground = h .ground; free = h .free }
 
-after-inv : (r : Rig) (l : Ledger) (e : Event) → Inv r l → Inv (after ours r e) (entered ours r e l)
+after-inv : (r : Rig) (l : Ledger) (e : Happening) → Inv r l → Inv (happened ours r e) (entered ours r e l)
 unfolding setOf
 after-inv r l (word w h) i = word-inv r l w h i
 after-inv r l spin i =
@@ -128,13 +128,13 @@ after-inv r l frame i =
     let latched : nextLatch r < 0x100000000 = by-test (_< 0x100000000) (eqb at 0) (λ e. long) (λ e. by-test (_< 0x100000000) (eqb at 27) (λ f. free) (λ f. i .sending .latch)) in
     record { told = i .told; counter = i .counter; holds = i .holds; check = i .check; byte = i .byte; fits = i .fits; panel = i .panel; sending = record { next = omega arith; latch = latched } }
 
-run-inv : (r : Rig) (l : Ledger) (es : List Event) → Inv r l → Inv (run ours r es) (ledger ours r l es)
+run-inv : (r : Rig) (l : Ledger) (es : List Happening) → Inv r l → Inv (run ours r es) (ledger ours r l es)
 unfolding run ledger
 run-inv r l [] i = i
-run-inv r l (e ∷ es) i = run-inv (after ours r e) (entered ours r e l) es (after-inv r l e i)
+run-inv r l (e ∷ es) i = run-inv (happened ours r e) (entered ours r e l) es (after-inv r l e i)
 
-always : (es : List Event) → Inv (reached ours es) (given ours es)
-always es = run-inv startRig blank es start-inv
+always : (es : List Happening) → Inv (reached ours es) (given ours es)
+always es = run-inv startRig nothingGiven es start-inv
 
 bounded : {r : Rig} {l : Ledger} → Inv r l → Bounds r
 bounded i =

@@ -18,7 +18,7 @@ use Rattle.rig.specs.declared.Answer.the-variants.{Waiting}
 use Rattle.rig.specs.declared.Reply.the-variants.{Plain, Swallowed}
 use Rattle.rig.specs.declared.Taken.{Taken}
 use Rattle.rig.specs.Records.{withPending, withCheck}
-use Rattle.rig.specs.Words.{highOf, lowOf, kindOf, codeOf, nothingPending, newBlock, oneMore, settledOf, headOf, freshOf, sameCode, keeps, closes, verdictOf, closedOf, afterDrop, dropped, droppedOf, pendingOf, takeOf}
+use Rattle.rig.specs.Words.{highOf, lowOf, kindOf, codeOf, nothingPending, newBlock, oneMore, settledOf, headOf, freshOf, sameCode, keeps, closes, verdictOf, closedOf, afterDrop, dropBlock, droppedOf, pendingOf, takeOf}
 use Rattle.laws.proofs.Tests.{by-test, and-right}
 use Rattle.laws.proofs.WordKinds.{isEnd, closesIt}
 use Rattle.laws.proofs.Commands.{CoreFits, Keeps, single-keeps, verdict-keeps}
@@ -41,8 +41,8 @@ pub data Case (r : Rig) (high low : ℕ) : Bool → Taken → Type 0 where
       → Case r high low false (record { rig = withPending r (oneMore (r .pending) low); reply = Plain Waiting })
   closed : r .pending .waiting ≡ true → (v : Verdict) → (CoreFits (r .core) → r .pending .first < 0x100 → Keeps v)
       → Case r high low true (settledOf (withCheck (withPending r nothingPending) (r .pending .check)) (r .pending .head) v)
-  swallowed : r .pending .waiting ≡ true → Case r high low false (record { rig = dropped r; reply = Swallowed })
-  again : r .pending .waiting ≡ true → (t : Taken) → Fresh (dropped r) high low t → Case r high low false (afterDrop t)
+  swallowed : r .pending .waiting ≡ true → Case r high low false (record { rig = dropBlock r; reply = Swallowed })
+  again : r .pending .waiting ≡ true → (t : Taken) → Fresh (dropBlock r) high low t → Case r high low false (afterDrop t)
 
 fresh-is : (r : Rig) (k : Kind) (high low : ℕ) → Fresh r high low (freshOf r k high low)
 unfolding freshOf headOf
@@ -63,8 +63,8 @@ end-is r high low false w e = rw e (swallowed w)
 
 pending-is : (r : Rig) (k : Kind) (high low : ℕ) → r .pending .waiting ≡ true → Case r high low (isEnd k && closes (r .pending) high) (pendingOf r k high low)
 unfolding pendingOf droppedOf
-pending-is r Single high low w = again w (freshOf (dropped r) Single high low) (fresh-is (dropped r) Single high low)
-pending-is r Head high low w = again w (freshOf (dropped r) Head high low) (fresh-is (dropped r) Head high low)
+pending-is r Single high low w = again w (freshOf (dropBlock r) Single high low) (fresh-is (dropBlock r) Single high low)
+pending-is r Head high low w = again w (freshOf (dropBlock r) Head high low) (fresh-is (dropBlock r) Head high low)
 pending-is r Data high low w = data-is r high low (keeps (r .pending) high) w refl
 pending-is r End high low w = end-is r high low (closes (r .pending) high) w refl
 

@@ -145,7 +145,7 @@ pub record RowLaws (take : Rig → ℕ → Taken) : Type 0 where
       → take r w ≡ swallowed r (r .pending .head)
 
 -- These laws and those of the replies leave a word one answer and one rig: two functions that keep them agree at every rig and every word.
-abbrev pub OneRig : Type 0
-OneRig =
+abbrev pub OneTake : Type 0
+OneTake =
     (take other : Rig → ℕ → Taken) → RowLaws take → ReplyLaws take → RowLaws other → ReplyLaws other
     → (r : Rig) (w : ℕ) → take r w ≡ other r w

@@ -41,12 +41,12 @@ FitsPanel (Flap2 b) = Unit {0}
 FitsPanel (Flap3 b) = Unit {0}
 
 -- what can happen to a rig: a word of 16 bits, a spin, a setting, a power cut, a frame built
-pub data Event : Type 0 where
-  word : (w : ℕ) → w < 0x10000 → Event
-  spin : Event
-  set : (s : PanelSetting) → FitsPanel s → Event
-  cut : Event
-  frame : Event
+pub data Happening : Type 0 where
+  word : (w : ℕ) → w < 0x10000 → Happening
+  spin : Happening
+  set : (s : PanelSetting) → FitsPanel s → Happening
+  cut : Happening
+  frame : Happening
 
 -- the functions of a rig
 pub record Machine : Type 0 where
@@ -61,18 +61,18 @@ pub record Machine : Type 0 where
 abbrev pub ours : Machine
 ours = record { start = startRig; take = takeOf; spin = spunOf; set = setOf; cut = cutOf; sent = sent }
 
--- what each event does to the rig
-abbrev pub after : Machine → Rig → Event → Rig
-after m r (word w h) = m .take r w .rig
-after m r spin = m .spin r
-after m r (set s h) = m .set r s
-after m r cut = m .cut r
-after m r frame = m .sent r
+-- what each happening does to the rig
+abbrev pub happened : Machine → Rig → Happening → Rig
+happened m r (word w h) = m .take r w .rig
+happened m r spin = m .spin r
+happened m r (set s h) = m .set r s
+happened m r cut = m .cut r
+happened m r frame = m .sent r
 
--- events in order, any number of them
-unfoldable pub run : Machine → Rig → List Event → Rig
+-- happenings in order, any number of them
+unfoldable pub run : Machine → Rig → List Happening → Rig
 run m r [] = r
-run m r (e ∷ es) = run m (after m r e) es
+run m r (e ∷ es) = run m (happened m r e) es
 
 -- What the words sent have begun, told by the words alone: nothing, or a block with its head's byte, its n, and the low bytes of its data words in order.
 pub data Begun : Type 0 where
@@ -120,8 +120,8 @@ pub record Ledger : Type 0 where
   pub begun : Begun
 
 -- nothing given: 0, and FFh for the code
-abbrev pub blank : Ledger
-blank = record { refusals = 0; spins = 0; error = 0x00; last = 0xFF; check = 0x00; begun = nothing }
+abbrev pub nothingGiven : Ledger
+nothingGiven = record { refusals = 0; spins = 0; error = 0x00; last = 0xFF; check = 0x00; begun = nothing }
 
 -- the number of the latest refusal, after this reply; a dropped block is 03h
 abbrev pub latestError : ℕ → Reply → ℕ
@@ -143,8 +143,8 @@ latestCode old named own (Dropped Accepted) = named
 latestCode old named own (Dropped Waiting) = named
 latestCode old named own (Dropped (Refused why)) = own
 
--- what an event adds: each refusal a word gets is counted, each spin; a power cut begins anew
-abbrev pub entered : Machine → Rig → Event → Ledger → Ledger
+-- what a happening adds: each refusal a word gets is counted, each spin; a power cut begins anew
+abbrev pub entered : Machine → Rig → Happening → Ledger → Ledger
 entered m r (word w h) l =
     let reply = m .take r w .reply in
     record {
@@ -157,21 +157,21 @@ entered m r (word w h) l =
     }
 entered m r spin l = record { refusals = l .refusals; spins = l .spins + 1; error = l .error; last = l .last; check = l .check; begun = l .begun }
 entered m r (set s h) l = l
-entered m r cut l = blank
+entered m r cut l = nothingGiven
 entered m r frame l = l
 
 -- the ledger of a run that begins at the rig r with the ledger l
-unfoldable pub ledger : Machine → Rig → Ledger → List Event → Ledger
+unfoldable pub ledger : Machine → Rig → Ledger → List Happening → Ledger
 ledger m r l [] = l
-ledger m r l (e ∷ es) = ledger m (after m r e) (entered m r e l) es
+ledger m r l (e ∷ es) = ledger m (happened m r e) (entered m r e l) es
 
 -- the rig at the end of a run from the start
-abbrev pub reached : Machine → List Event → Rig
+abbrev pub reached : Machine → List Happening → Rig
 reached m es = run m (m .start) es
 
 -- the ledger at the end of a run from the start
-abbrev pub given : Machine → List Event → Ledger
-given m es = ledger m (m .start) blank es
+abbrev pub given : Machine → List Happening → Ledger
+given m es = ledger m (m .start) nothingGiven es
 
 -- the error codes that there are: none yet, 03h to 06h, 0Bh to 0Fh
 abbrev pub codes : List ℕ
@@ -265,22 +265,22 @@ pub record SentMoves (r q : Rig) : Type 0 where
 -- what every run keeps, of the functions of any rig
 pub record RunLaws (m : Machine) : Type 0 where
   -- the invalid count is the number of refusals given since the last power cut, modulo 256
-  pub count : (es : List Event) → reached m es .faults .count ≡ given m es .refusals % 256
+  pub count : (es : List Happening) → reached m es .faults .count ≡ given m es .refusals % 256
   -- the long EDB counter is the number of spins since the last power cut, modulo 2^32
-  pub counter : (es : List Event) → reached m es .edbs .0 ≡ given m es .spins % 0x100000000
+  pub counter : (es : List Happening) → reached m es .edbs .0 ≡ given m es .spins % 0x100000000
   -- the error code and the last invalid code are those of the latest refusal since the last power cut; 0 and FFh if there was none
-  pub error : (es : List Event) → reached m es .faults .error ≡ given m es .error
-  pub last : (es : List Event) → reached m es .faults .last ≡ given m es .last
+  pub error : (es : List Happening) → reached m es .faults .error ≡ given m es .error
+  pub last : (es : List Happening) → reached m es .faults .last ≡ given m es .last
   -- the error code is one of those that there are
-  pub errors : (es : List Event) → oneOf codes (reached m es .faults .error) ≡ true
+  pub errors : (es : List Happening) → oneOf codes (reached m es .faults .error) ≡ true
   -- the last check is that of the data words sent in the latest block that was closed since the last power cut; 0 if there was none
-  pub check : (es : List Event) → reached m es .check ≡ given m es .check
+  pub check : (es : List Happening) → reached m es .check ≡ given m es .check
   -- the pending block is what the words sent have begun: its head, its n, and the bytes of its data words; or none
-  pub holds : (es : List Event) → reached m es .pending ≡ heldAs (given m es .begun)
+  pub holds : (es : List Happening) → reached m es .pending ≡ heldAs (given m es .begun)
   -- every field keeps its bounds
-  pub bounds : (es : List Event) → Bounds (reached m es)
+  pub bounds : (es : List Happening) → Bounds (reached m es)
   -- what a frame shows of each plain item fits the item's width, so that nothing is cut off
-  pub widths : (es : List Event) (k : ℕ) → k < 25 → heldAt (heldOf (reached m es)) k < remOf k
+  pub widths : (es : List Happening) (k : ℕ) → k < 25 → heldAt (heldOf (reached m es)) k < remOf k
   -- a setting and a frame move every rig so, and so does a spin; a power cut returns it to the start
   pub set : (r : Rig) (s : PanelSetting) → SetMoves r s (m .set r s)
   pub sent : (r : Rig) → SentMoves r (m .sent r)

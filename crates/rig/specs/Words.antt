@@ -113,14 +113,14 @@ afterDrop t = record { rig = t .rig; reply = droppedReply (t .reply) }
 abbrev pub dropNumber : ℕ
 dropNumber = 0x03
 
-abbrev pub dropped : Rig → Rig
-dropped r = refusedOf (withPending r nothingPending) (r .pending .head) dropNumber
+abbrev pub dropBlock : Rig → Rig
+dropBlock r = refusedOf (withPending r nothingPending) (r .pending .head) dropNumber
 
 unfoldable pub droppedOf : Rig → Kind → ℕ → ℕ → Taken
-droppedOf r Single high low = afterDrop (freshOf (dropped r) Single high low)
-droppedOf r Head high low = afterDrop (freshOf (dropped r) Head high low)
-droppedOf r Data high low = record { rig = dropped r; reply = Swallowed }
-droppedOf r End high low = record { rig = dropped r; reply = Swallowed }
+droppedOf r Single high low = afterDrop (freshOf (dropBlock r) Single high low)
+droppedOf r Head high low = afterDrop (freshOf (dropBlock r) Head high low)
+droppedOf r Data high low = record { rig = dropBlock r; reply = Swallowed }
+droppedOf r End high low = record { rig = dropBlock r; reply = Swallowed }
 
 unfoldable pub pendingOf : Rig → Kind → ℕ → ℕ → Taken
 pendingOf r Data high low =
