@@ -5,7 +5,7 @@ use Rattle.frame.specs.Items.{rowOf}
 use Rattle.frame.proofs.Rows.{row-lt}
 use Rattle.demands.specs.History.{Told}
 use Rattle.demands.specs.Outfit.{proved}
-use Rattle.demands.specs.AtOnce.{AtOnceFor, after}
+use Rattle.demands.specs.AtOnce.{AtOnceFor, afterTurns}
 use Rattle.demands.proofs.Shown.{told}
 use Rattle.demands.proofs.Invariant.{desk-shows}
 use Rattle.demands.proofs.Window.{thirty-five}
@@ -14,7 +14,7 @@ pub at-once : AtOnceFor proved
 at-once =
     record {
       shown = λ es item.
-          subst (Told (rowOf item) (after proved es .past)) (sym (desk-shows es (rowOf item) (row-lt item)))
-          (told (rowOf item) (row-lt item) (after proved es .past));
+          subst (Told (rowOf item) (afterTurns proved es .past)) (sym (desk-shows es (rowOf item) (row-lt item)))
+          (told (rowOf item) (row-lt item) (afterTurns proved es .past));
       round = λ es item. thirty-five es (rowOf item) (row-lt item);
     }

@@ -14,7 +14,7 @@ use Rattle.frame.specs.Items.{heldAt}
 use Rattle.frame.specs.Read.{isPlain, carries, readOf}
 use Rattle.frame.proofs.Laws.{laws as frame-laws}
 use Rattle.sending.specs.Sending.{heldOf, nextLatch, nextFrame}
-use Rattle.laws.specs.Runs.{Event, ours, reached}
+use Rattle.laws.specs.Runs.{Happening, ours, reached}
 use Rattle.laws.proofs.Rows.{row-laws}
 use Rattle.laws.proofs.Blocks.{block-laws}
 use Rattle.laws.proofs.Runs.{run-laws}
@@ -28,7 +28,7 @@ use Rattle.demands.proofs.Held.{held-table, settles}
 use Rattle.demands.proofs.AnyDesk.{slot-laws}
 
 -- what a frame carries reads back modulo its width, and fits it
-shows : (es : List Event) (k : ℕ) → isPlain k ≡ true → carries k (reached ours es .sending .next) ≡ true
+shows : (es : List Happening) (k : ℕ) → isPlain k ≡ true → carries k (reached ours es .sending .next) ≡ true
     → readOf (nextFrame (reached ours es)) k ≡ Value (heldAt (heldOf (reached ours es)) k)
 shows es k l e =
     let r = reached ours es in

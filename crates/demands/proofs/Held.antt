@@ -10,7 +10,7 @@ use borrow.Author.Tests.{eqb-true, eqb-false, eq-eqb, ne-eqb}
 use Rattle.base.specs.Pick.{pick}
 use Rattle.base.proofs.Cases.{split}
 use Rattle.base.proofs.Table.{allBelow, below}
-use Rattle.supply.specs.Rules.{relayed, targeted, limited, switched}
+use Rattle.supply.specs.Rules.{relayOf, targeted, limited, switched}
 use Rattle.crc.specs.Crc.{shift, crcFrom, crcOf}
 use Rattle.judge.specs.Commands.{carried, modeCmd, singleOf, countedOf, blockOf}
 use Rattle.frame.specs.declared.Item.{Item}
@@ -49,7 +49,7 @@ true-rows [] t = tt
 true-rows (r ∷ rs) t = (true-row r (t .0), true-rows rs (t .1))
 
 computed : AllComputed table
-unfolding doing builds takeOf pendingOf droppedOf closedOf verdictOf freshOf headOf settledOf refusedOf kindOf blockOf countedOf singleOf modeCmd carried relayed targeted limited switched crcOf crcFrom shift setOf frameOf muxOf groundAt quarterOf
+unfolding doing builds takeOf pendingOf droppedOf closedOf verdictOf freshOf headOf settledOf refusedOf kindOf blockOf countedOf singleOf modeCmd carried relayOf targeted limited switched crcOf crcFrom shift setOf frameOf muxOf groundAt quarterOf
 computed = ((tt, (refl, tt)), ((tt, (refl, tt)), ((tt, (refl, tt)), ((tt, (refl, tt)), ((tt, (refl, tt)), ((tt, (refl, tt)), ((tt, (refl, tt)), ((tt, (refl, (refl, tt))), ((tt, (refl, (refl, tt))), ((tt, (refl, (refl, tt))), ((tt, (refl, (refl, tt))), ((tt, (refl, (refl, tt))), ((tt, (refl, (refl, (refl, tt)))), ((tt, (refl, tt)), ((tt, (refl, tt)), ((tt, (refl, tt)), ((tt, (refl, (refl, tt))), ((tt, (refl, tt)), ((tt, (refl, tt)), ((tt, (refl, tt)), ((tt, (refl, (refl, (refl, (refl, tt))))), ((tt, (refl, (refl, tt))), tt))))))))))))))))))))))
 
 pub held-table : HeldTable proved held

@@ -22,27 +22,27 @@ use Rattle.laws.proofs.Replies.{reply-laws}
 use Rattle.laws.proofs.Runs.{run-laws}
 use Rattle.demands.specs.History.{Slot, missed, whole}
 use Rattle.demands.specs.Outfit.{proved, fillC0, fillFF}
-use Rattle.demands.specs.AtOnce.{Event, word, spin, set, cut, arrives, lost, lostC0, lostFF, idle, idleC0, idleFF, noRoom, torn, World, start, next, run}
+use Rattle.demands.specs.AtOnce.{Turn, word, spin, set, cut, arrives, lost, lostC0, lostFF, idle, idleC0, idleFF, noRoom, torn, World, start, next, run}
 use Rattle.demands.proofs.Shown.{brought, shownOf}
 use Rattle.desk.proofs.Laws.{laws as desk-laws}
 use Rattle.demands.proofs.Half.{Good, halfOf, Linked, half-step, reads, linked-built, linked-missed}
 
 -- a rig that some run of the rig's own events reaches
 pub record Made (r : Rig) : Type 0 where
-  pub by : List ran.Event
+  pub by : List ran.Happening
   pub is : r ≡ reached ours by
 
 -- a run, and one event more
-run-more : (r : Rig) (es : List ran.Event) (e : ran.Event) → ran.run ours r (es ++ (e ∷ [])) ≡ ran.after ours (ran.run ours r es) e
+run-more : (r : Rig) (es : List ran.Happening) (e : ran.Happening) → ran.run ours r (es ++ (e ∷ [])) ≡ ran.happened ours (ran.run ours r es) e
 unfolding ran.run
 run-more r [] e = refl
-run-more r (x ∷ es) e = run-more (ran.after ours r x) es e
+run-more r (x ∷ es) e = run-more (ran.happened ours r x) es e
 
-pub made-more : (r : Rig) (e : ran.Event) → Made r → Made (ran.after ours r e)
+pub made-more : (r : Rig) (e : ran.Happening) → Made r → Made (ran.happened ours r e)
 made-more r e m =
     record {
       by = m .by ++ (e ∷ []);
-      is = ap (λ (x : Rig). ran.after ours x e) (m .is) ∙ sym (run-more (ours .start) (m .by) e);
+      is = ap (λ (x : Rig). ran.happened ours x e) (m .is) ∙ sym (run-more (ours .start) (m .by) e);
     }
 
 pub good : (r : Rig) → Made r → Good r
@@ -138,7 +138,7 @@ left r h e i = subst (λ (d : Desk). Inv (record { rig = r; desk = d; past = h }
 no-room : (r : Rig) (b : List ℕ) (at : ℕ) → length b < at + 40 → builtOf r b at .rig ≡ r
 no-room r b at h = simp (lt-ltb _ _ h)
 
-step : (w : World) (e : Event) → Inv w → Inv (next proved w e)
+step : (w : World) (e : Turn) → Inv w → Inv (next proved w e)
 step w (word x h) i = quiet w (takeOf (w .rig) x .rig) i (made-more (w .rig) (ran.word x h) (i .made)) (reply-laws .apart (w .rig) x .sending)
 step w spin i = quiet w (spunOf (w .rig)) i (made-more (w .rig) ran.spin (i .made)) refl
 step w (set s h) i = quiet w (setOf (w .rig) s) i (made-more (w .rig) (ran.set s h) (i .made)) (unfold setOf in refl)
@@ -156,7 +156,7 @@ step w (noRoom b at h) i =
     subst (λ (r : Rig). Inv (record { rig = r; desk = w .desk; past = w .past })) (sym (no-room (w .rig) b at h)) i
 step w (torn f h) i = left (w .rig) (w .past) (torn-stays (w .desk) f h) i
 
-pub runs : (w : World) (es : List Event) → Inv w → Inv (run proved w es)
+pub runs : (w : World) (es : List Turn) → Inv w → Inv (run proved w es)
 unfolding run
 runs w [] i = i
 runs w (e ∷ es) i = runs (next proved w e) es (step w e i)
@@ -171,9 +171,9 @@ begin =
       shown = λ k l. ap shownBy (getD-replicate items k blank blank l);
     }
 
-pub after : (es : List Event) → Inv (run proved (start proved) es)
+pub after : (es : List Turn) → Inv (run proved (start proved) es)
 after es = runs (start proved) es begin
 
 -- after any run of events the desk shows of each item what the history of slots says
-pub desk-shows : (es : List Event) (k : ℕ) → k < items → shows (run proved (start proved) es .desk) k ≡ shownOf k (run proved (start proved) es .past)
+pub desk-shows : (es : List Turn) (k : ℕ) → k < items → shows (run proved (start proved) es .desk) k ≡ shownOf k (run proved (start proved) es .past)
 desk-shows es k l = after es .shown k l

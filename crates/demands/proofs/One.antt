@@ -144,26 +144,26 @@ level-is s n m =
 
 -- a rig is its parts
 made : Supply → Settings → Faults → Pending → ℕ → Panel → Sending → Spins → Rig
-made a b c d e f g h = record { core = record { supply = a; settings = b }; faults = c; pending = d; check = e; panel = f; sending = g; edbs = h }
+made a b c d e f g h = record { core = record { stop = a; settings = b }; faults = c; pending = d; check = e; panel = f; sending = g; edbs = h }
 
 same-made : {a i : Supply} {b j : Settings} {c k : Faults} {d l : Pending} {e m : ℕ} {f n : Panel} {g o : Sending} {h p : Spins}
     → a ≡ i → b ≡ j → c ≡ k → d ≡ l → e ≡ m → f ≡ n → g ≡ o → h ≡ p → made a b c d e f g h ≡ made i j k l m n o p
 same-made q r s t u v w x = cc
 
-parts-are : (r q : Rig) → q .core .supply ≡ r .core .supply → q .core .settings ≡ r .core .settings → q .faults ≡ r .faults → q .pending ≡ r .pending
+parts-are : (r q : Rig) → q .core .stop ≡ r .core .stop → q .core .settings ≡ r .core .settings → q .faults ≡ r .faults → q .pending ≡ r .pending
     → q .check ≡ r .check → q .panel ≡ r .panel → q .sending ≡ r .sending → q .edbs ≡ r .edbs → q ≡ r
 unfolding made
 parts-are r q a b c d e f g h = same-made a b c d e f g h
 
 spin-is : (r q : Rig) → Spun r q → q ≡ spunOf r
 spin-is r q m =
-    parts-are (spunOf r) q (level-is (r .core .supply) (q .core .supply) (m .supply)) (m .settings) (m .faults) (m .pending) (m .check) (m .panel) (m .sending) (m .edbs)
+    parts-are (spunOf r) q (level-is (r .core .stop) (q .core .stop) (m .stop)) (m .settings) (m .faults) (m .pending) (m .check) (m .panel) (m .sending) (m .edbs)
 
 set-is : (r : Rig) (s : PanelSetting) (q : Rig) → SetMoves r s q → q ≡ setOf r s
 unfolding setOf
 set-is r s q m =
     let k = m .kept in
-    parts-are (setOf r s) q (ap (λ (c : Core). c .supply) (k .core)) (ap (λ (c : Core). c .settings) (k .core)) (k .faults) (k .pending) (k .check)
+    parts-are (setOf r s) q (ap (λ (c : Core). c .stop) (k .core)) (ap (λ (c : Core). c .settings) (k .core)) (k .faults) (k .pending) (k .check)
     (m .panel ∙ sym (panel-is (r .panel) s)) (m .sending) (k .edbs)
 
 sends : ℕ → ℕ → Sending
@@ -176,7 +176,7 @@ sent-is : (r q : Rig) → SentMoves r q → q ≡ sent r
 unfolding sends
 sent-is r q m =
     let k = m .kept in
-    parts-are (sent r) q (ap (λ (c : Core). c .supply) (k .core)) (ap (λ (c : Core). c .settings) (k .core)) (k .faults) (k .pending) (k .check)
+    parts-are (sent r) q (ap (λ (c : Core). c .stop) (k .core)) (ap (λ (c : Core). c .settings) (k .core)) (k .faults) (k .pending) (k .check)
     (m .panel) (same-sends (m .next) (m .latch)) (k .edbs)
 
 pub one-rig : OneRig
@@ -184,7 +184,7 @@ one-rig o one two =
     let frame = two .frame in
     record {
       start = two .start;
-      take = λ r w. laws.one-rig (o .rig .take) takeOf (two .rows) (one .words) row-laws reply-laws r w;
+      take = λ r w. laws.one-take (o .rig .take) takeOf (two .rows) (one .words) row-laws reply-laws r w;
       spin = λ r. spin-is r (o .rig .spin r) (two .runs .spin r);
       set = λ r s. set-is r s (o .rig .set r s) (two .runs .set r s);
       cut = λ r. two .runs .cut r ∙ two .start;

@@ -14,7 +14,7 @@ use Rattle.desk.specs.declared.Shown.the-variants.{Known}
 use Rattle.rig.specs.declared.Rig.{Rig}
 use Rattle.demands.specs.History.{Slot, missed, whole, held, Told}
 use Rattle.demands.specs.Outfit.{Outfit}
-use Rattle.demands.specs.AtOnce.{AtOnceFor, World, Event, arrives, lost, lostC0, lostFF, start, next, run}
+use Rattle.demands.specs.AtOnce.{AtOnceFor, World, Turn, arrives, lost, lostC0, lostFF, start, next, run}
 use Rattle.demands.specs.AtOnce as world
 use Rattle.demands.specs.Demand3.{Demand3For}
 use Rattle.demands.specs.Queue.{Line, Alone, word, spin, set, cut, noRoom, Empty, marked, C0, FF, Step, alone, built, came, gone, idle, torn, begin, moved, unheard, arrive, lose, step, steps, Beat, build, hand, beat, beats, builds}
@@ -62,15 +62,15 @@ module _ (o : Outfit) where
 
   -- a world that some run of events reaches
   record Reached (w : World) : Type 0 where
-    by : List Event
+    by : List Turn
     is : run o (start o) by ≡ w
 
-  run-more : (w : World) (es : List Event) (e : Event) → run o w (es ++ (e ∷ [])) ≡ next o (run o w es) e
+  run-more : (w : World) (es : List Turn) (e : Turn) → run o w (es ++ (e ∷ [])) ≡ next o (run o w es) e
   unfolding run
   run-more w [] e = refl
   run-more w (x ∷ es) e = run-more (next o w x) es e
 
-  further : {w : World} (e : Event) → Reached w → Reached (next o w e)
+  further : {w : World} (e : Turn) → Reached w → Reached (next o w e)
   further e m = record { by = m .by ++ (e ∷ []); is = run-more (start o) (m .by) e ∙ ap (λ (x : World). next o x e) (m .is) }
 
   abbrev W : Rig → Desk → List Slot → World
@@ -259,7 +259,7 @@ module _ (o : Outfit) where
   tail-end (suc m) t e = let z : t .from ∷ ways (o .rig .sent (t .from)) m ≡ [] = t .way ∙ e in let y : _≡_ {A = ℕ} 0 1 = cc in absurd (omega arith)
 
   round-it : (l : Line) → Reached (W (l .rig) (l .desk) (l .past)) → l .way ≡ [] → (bs : List Beat) → builds bs ≡ 35 → steps o l (beats bs) .way ≡ []
-      → (es : List Event) × (let q = steps o l (beats bs) in run o (run o (start o) es) (replicate 35 arrives) ≡ W (q .rig) (q .desk) (q .past))
+      → (es : List Turn) × (let q = steps o l (beats bs) in run o (run o (start o) es) (replicate 35 arrives) ≡ W (q .rig) (q .desk) (q .past))
   unfolding rigs ways run
   round-it l m e bs k f =
       let w = W (l .rig) (l .desk) (l .past) in
@@ -283,7 +283,7 @@ module _ (o : Outfit) where
 
 -- and back: a run in which each frame becomes a slot as it is built is a run of steps
 module _ (o : Outfit) where
-  stepsOf : Event → List Step
+  stepsOf : Turn → List Step
   stepsOf (world.word x h) = alone (word x h) ∷ []
   stepsOf world.spin = alone spin ∷ []
   stepsOf (world.set s h) = alone (set s h) ∷ []
@@ -302,7 +302,7 @@ module _ (o : Outfit) where
   abbrev lineOf : World → Line
   lineOf w = record { rig = w .rig; desk = w .desk; past = w .past; way = [] }
 
-  each-step : (w : World) (e : Event) → steps o (lineOf w) (stepsOf e) ≡ lineOf (next o w e)
+  each-step : (w : World) (e : Turn) → steps o (lineOf w) (stepsOf e) ≡ lineOf (next o w e)
   unfolding steps stepsOf
   each-step w (world.word x h) = refl
   each-step w world.spin = refl
@@ -318,7 +318,7 @@ module _ (o : Outfit) where
   each-step w (world.noRoom b at h) = refl
   each-step w (world.torn f h) = refl
 
-  stepsAll : List Event → List Step
+  stepsAll : List Turn → List Step
   stepsAll [] = []
   stepsAll (e ∷ es) = stepsOf e ++ stepsAll es
 
@@ -327,7 +327,7 @@ module _ (o : Outfit) where
   steps-join l [] ts = refl
   steps-join l (s ∷ ss) ts = steps-join (step o l s) ss ts
 
-  all-steps : (w : World) (es : List Event) → steps o (lineOf w) (stepsAll es) ≡ lineOf (run o w es)
+  all-steps : (w : World) (es : List Turn) → steps o (lineOf w) (stepsAll es) ≡ lineOf (run o w es)
   unfolding steps run stepsAll
   all-steps w [] = refl
   all-steps w (e ∷ es) =

@@ -22,7 +22,7 @@ use Rattle.sending.specs.Sending.{sent}
 use Rattle.demands.specs.History.{held, Slot, whole}
 use Rattle.demands.proofs.Shown.{Run, broken, from, back, known, brought, shownOf, back-one, back-more}
 use Rattle.demands.specs.Outfit.{proved}
-use Rattle.demands.specs.AtOnce.{Event, arrives, World, start, next, run}
+use Rattle.demands.specs.AtOnce.{Turn, arrives, World, start, next, run}
 use Rattle.demands.proofs.Invariant.{runs, after, good}
 
 -- the rig after m frames, and the history with m whole frames more
@@ -138,7 +138,7 @@ module _ (r : Rig) (h : List Slot) (n31 : r .sending .next ≤ 31) where
         le-ind {n = suc due} Fresh (brings due (omega arith) (omega (arith, n))) (λ m l f. stays m (omega arith) f) 35 (omega arith)
 
 -- if 35 slots in a row are built and arrive whole with nothing else happening, every item is shown and equals the rig's present one
-pub thirty-five : (es : List Event) (k : ℕ) → k < items
+pub thirty-five : (es : List Turn) (k : ℕ) → k < items
     → (age : Frames) × (shows (run proved (run proved (start proved) es) (replicate 35 arrives) .desk) k
     ≡ Known (held (run proved (run proved (start proved) es) (replicate 35 arrives) .rig) k) age)
 thirty-five es k l =

@@ -23,26 +23,26 @@ pub record World : Type 0 where
   pub past : List Slot
 
 -- everything that can happen
-pub data Event : Type 0 where
+pub data Turn : Type 0 where
   -- a word of 16 bits, a spin, a setting by the instructor, a power cut: the desk hears nothing
-  word : (w : ℕ) → w < 0x10000 → Event
-  spin : Event
-  set : (s : PanelSetting) → FitsPanel s → Event
-  cut : Event
+  word : (w : ℕ) → w < 0x10000 → Turn
+  spin : Turn
+  set : (s : PanelSetting) → FitsPanel s → Turn
+  cut : Turn
   -- the next frame is built and its slot arrives whole
-  arrives : Event
+  arrives : Turn
   -- the next frame is built and its slot is marked missed, or arrives as fill
-  lost : Event
-  lostC0 : Event
-  lostFF : Event
+  lost : Turn
+  lostC0 : Turn
+  lostFF : Turn
   -- no frame is built, and a slot is marked missed or arrives as fill
-  idle : Event
-  idleC0 : Event
-  idleFF : Event
+  idle : Turn
+  idleC0 : Turn
+  idleFF : Turn
   -- a frame was to be built where there is no room (18)
-  noRoom : (b : List ℕ) (at : ℕ) → length b < at + 40 → Event
+  noRoom : (b : List ℕ) (at : ℕ) → length b < at + 40 → Turn
   -- no frame is built, and bytes of another length are handed to the desk (17): no slot passes
-  torn : (f : List ℕ) → (length f ≡ 40 → ⊥) → Event
+  torn : (f : List ℕ) → (length f ≡ 40 → ⊥) → Turn
 
 module _ (o : Outfit) where
   -- fresh rig, fresh desk, no slot yet
@@ -61,8 +61,8 @@ module _ (o : Outfit) where
   abbrev pub unbuilt : World → Desk → World
   unbuilt w d = record { rig = w .rig; desk = d; past = missed ∷ w .past }
 
-  -- what each event does to the world
-  abbrev pub next : World → Event → World
+  -- what each turn does to the world
+  abbrev pub next : World → Turn → World
   next w (word x h) = withRig w (o .rig .take (w .rig) x .rig)
   next w spin = withRig w (o .rig .spin (w .rig))
   next w (set s h) = withRig w (o .rig .set (w .rig) s)
@@ -77,25 +77,25 @@ module _ (o : Outfit) where
   next w (noRoom b at h) = withRig w (o .build (w .rig) b at .rig)
   next w (torn f h) = record { rig = w .rig; desk = o .slot (w .desk) f .desk; past = w .past }
 
-  -- events in order, any number of them
-  unfoldable pub run : World → List Event → World
+  -- turns in order, any number of them
+  unfoldable pub run : World → List Turn → World
   run w [] = w
   run w (e ∷ es) = run (next w e) es
 
-  -- the world after any events
-  abbrev pub after : List Event → World
-  after es = run start es
+  -- the world after any turns
+  abbrev pub afterTurns : List Turn → World
+  afterTurns es = run start es
 
 -- as many slots as make every item known: 35
 abbrev pub enough : Frames
 enough = frames 35
 
--- the world after any events, and after so many whole slots more with nothing else happening
-abbrev pub thenWhole : Outfit → List Event → Frames → World
-thenWhole o es n = run o (after o es) (replicate (n .0) arrives)
+-- the world after any turns, and after so many whole slots more with nothing else happening
+abbrev pub thenWhole : Outfit → List Turn → Frames → World
+thenWhole o es n = run o (afterTurns o es) (replicate (n .0) arrives)
 
 -- demand 3 over these runs, of any rig and desk
 pub record AtOnceFor (o : Outfit) : Type 0 where
-  pub shown : (es : List Event) (item : Item) → Told (rowOf item) (after o es .past) (o .look (after o es .desk) item)
-  pub round : (es : List Event) (item : Item)
+  pub shown : (es : List Turn) (item : Item) → Told (rowOf item) (afterTurns o es .past) (o .look (afterTurns o es .desk) item)
+  pub round : (es : List Turn) (item : Item)
       → (age : Frames) × (o .look (thenWhole o es enough .desk) item ≡ Known (held (thenWhole o es enough .rig) (rowOf item)) age)

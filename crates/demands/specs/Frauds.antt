@@ -25,7 +25,8 @@ use Rattle.rig.specs.declared.Answer.the-variants as answer
 use Rattle.rig.specs.declared.Reply.{Reply}
 use Rattle.rig.specs.declared.Reply.the-variants.{Plain, Swallowed, Dropped}
 use Rattle.rig.specs.declared.Taken.{Taken}
-use Rattle.rig.specs.Words.{withFaults, takeOf}
+use Rattle.rig.specs.Records.{withFaults}
+use Rattle.rig.specs.Words.{takeOf}
 use Rattle.demands.specs.Outfit.{Outfit}
 use Rattle.demands.specs.Demand1.{Demand1For}
 use Rattle.demands.specs.Demand2.{Demand2For}

@@ -61,9 +61,9 @@ table =
     ∷ row (set (panel.Bias 0x9A) ∷ []) ((Bias, 0x9A) ∷ []) ((0, (36, 0x9A)) ∷ [])
     ∷ row (set (panel.Ground 0xD7) ∷ []) ((Ground, 0xD7) ∷ []) ((0, (38, 0xD7)) ∷ [])
     ∷ row (set (panel.FreeTime 0xF234) ∷ []) ((FreeTime, 0xF234) ∷ []) ((27, (39, 0xF2)) ∷ (28, (39, 0x34)) ∷ [])
-    ∷ row (set (panel.Flaps true false false) ∷ []) ((Flap1, 1) ∷ []) ((12, (39, 0x10)) ∷ [])
-    ∷ row (set (panel.Flaps false true false) ∷ []) ((Flap2, 1) ∷ []) ((12, (39, 0x20)) ∷ [])
-    ∷ row (set (panel.Flaps false false true) ∷ []) ((Flap3, 1) ∷ []) ((12, (39, 0x40)) ∷ [])
+    ∷ row (set (panel.Flap1 true) ∷ []) ((Flap1, 1) ∷ []) ((12, (39, 0x10)) ∷ [])
+    ∷ row (set (panel.Flap2 true) ∷ []) ((Flap2, 1) ∷ []) ((12, (39, 0x20)) ∷ [])
+    ∷ row (set (panel.Flap3 true) ∷ []) ((Flap3, 1) ∷ []) ((12, (39, 0x40)) ∷ [])
     -- spins; and those that bring the level to the target 15
     ∷ row (replicate 300 spin) ((LongCounter, 300) ∷ (ReducedCounter, 43) ∷ []) ((0, (20, 43)) ∷ (1, (39, 0)) ∷ (2, (39, 1)) ∷ (3, (39, 44)) ∷ [])
     ∷ row (send 0x0802 ∷ send 0x2D01 ∷ send 0x290F ∷ send 0x280F ∷ replicate 15 spin) ((Relay, 1) ∷ (StopStepping, 1) ∷ (StopLimit, 15) ∷ (StopLevel, 15) ∷ (LongCounter, 15) ∷ (ReducedCounter, 14) ∷ []) ((2, (37, 0xF0)) ∷ (3, (37, 0xF0)) ∷ [])

@@ -12,15 +12,15 @@ use Rattle.base.specs.Pick.{pick}
 use Rattle.base.proofs.Table.{allBelow, below}
 use Rattle.supply.specs.declared.Refusal.{Refusal as SupplyRefusal}
 use Rattle.supply.specs.declared.Refusal.the-variants as supply
-use Rattle.supply.specs.Rules.{relayed, targeted, limited, switched, numberOf as supplyNumberOf}
+use Rattle.supply.specs.Rules.{relayOf, targeted, limited, switched, numberOf as supplyNumberOf}
 use Rattle.judge.specs.declared.Core.{Core}
 use Rattle.judge.specs.declared.Refusal.{Refusal}
 use Rattle.judge.specs.declared.Refusal.the-variants.{RelayOff, Disabled, OverLimit, StrayWord, RelayBits, WrongCheck, Unsettled, OutOfRange, WrongCount, UnknownCode}
 use Rattle.judge.specs.declared.Verdict.{Verdict}
 use Rattle.judge.specs.declared.Verdict.the-variants.{Apply, Deny}
 use Rattle.judge.specs.Refusals.{numberOf, raised}
-use Rattle.judge.specs.Commands.{carried, relayCmd, ielCmd, maskCmd, targetCmd, limitCmd, modeCmd, steppingCmd, singleOf, muxSet, directionSet, energySet, countedOf, blockOf}
-use Rattle.judge.specs.Table.{singles, blocks, NoneOf, named, named2, Agree, has, TableLaws}
+use Rattle.judge.specs.Commands.{carried, relayCmd, ielCmd, maskCmd, targetCmd, limitCmd, modeCmd, steppingCmd, singleOf, muxCmd, directionCmd, energyCmd, countedOf, blockOf}
+use Rattle.judge.specs.Table.{singles, blocks, NoneOf, namedBits, namedBits2, Agree, has, TableLaws}
 
 between : (r : Refusal) → ((0x04 ≤ numberOf r) × (numberOf r ≤ 0x06)) ⊎ ((0x0B ≤ numberOf r) × (numberOf r ≤ 0x0F))
 between RelayOff = inl (omega arith, omega arith)
@@ -65,31 +65,31 @@ row P true f g h = f h
 row P false f g h = g h
 
 module _ (c : Core) (a b : ℕ) (ha : a < 0x100) (hb : b < 0x100) where
-  relay-same : Agree (named 0x08) a b → relayCmd c a ≡ relayCmd c b
-  unfolding relayed
-  relay-same e = simp (reads (named 0x08) (λ x. x / 2 % 2) tt a b ha hb e, reads (named 0x08) (λ x. x / 32 % 2) tt a b ha hb e)
+  relay-same : Agree (namedBits 0x08) a b → relayCmd c a ≡ relayCmd c b
+  unfolding relayOf
+  relay-same e = simp (reads (namedBits 0x08) (λ x. x / 2 % 2) tt a b ha hb e, reads (namedBits 0x08) (λ x. x / 32 % 2) tt a b ha hb e)
 
-  iel-same : Agree (named 0x0C) a b → ielCmd c a ≡ ielCmd c b
-  iel-same e = simp (reads (named 0x0C) (λ x. x % 2) tt a b ha hb e, reads (named 0x0C) (λ x. x / 2 % 2) tt a b ha hb e)
+  iel-same : Agree (namedBits 0x0C) a b → ielCmd c a ≡ ielCmd c b
+  iel-same e = simp (reads (namedBits 0x0C) (λ x. x % 2) tt a b ha hb e, reads (namedBits 0x0C) (λ x. x / 2 % 2) tt a b ha hb e)
 
-  mask-same : Agree (named 0x26) a b → maskCmd c a ≡ maskCmd c b
-  mask-same e = simp (reads (named 0x26) (λ x. x % 8) tt a b ha hb e)
+  mask-same : Agree (namedBits 0x26) a b → maskCmd c a ≡ maskCmd c b
+  mask-same e = simp (reads (namedBits 0x26) (λ x. x % 8) tt a b ha hb e)
 
-  target-same : Agree (named 0x28) a b → targetCmd c a ≡ targetCmd c b
+  target-same : Agree (namedBits 0x28) a b → targetCmd c a ≡ targetCmd c b
   unfolding targeted
-  target-same e = simp (reads (named 0x28) (λ x. x % 16) tt a b ha hb e)
+  target-same e = simp (reads (namedBits 0x28) (λ x. x % 16) tt a b ha hb e)
 
-  limit-same : Agree (named 0x29) a b → limitCmd c a ≡ limitCmd c b
+  limit-same : Agree (namedBits 0x29) a b → limitCmd c a ≡ limitCmd c b
   unfolding limited
-  limit-same e = simp (reads (named 0x29) (λ x. x % 16) tt a b ha hb e)
+  limit-same e = simp (reads (namedBits 0x29) (λ x. x % 16) tt a b ha hb e)
 
-  mode-same : Agree (named 0x2B) a b → modeCmd c a ≡ modeCmd c b
-  mode-same e = ap (modeCmd c) (reads (named 0x2B) (λ x. x) tt a b ha hb e)
+  mode-same : Agree (namedBits 0x2B) a b → modeCmd c a ≡ modeCmd c b
+  mode-same e = ap (modeCmd c) (reads (namedBits 0x2B) (λ x. x) tt a b ha hb e)
 
-  stepping-same : Agree (named 0x2D) a b → steppingCmd c a ≡ steppingCmd c b
-  stepping-same e = ap (steppingCmd c) (reads (named 0x2D) (λ x. x) tt a b ha hb e)
+  stepping-same : Agree (namedBits 0x2D) a b → steppingCmd c a ≡ steppingCmd c b
+  stepping-same e = ap (steppingCmd c) (reads (namedBits 0x2D) (λ x. x) tt a b ha hb e)
 
-ignored : (c : Core) (code a b : ℕ) → a < 0x100 → b < 0x100 → Agree (named code) a b → singleOf c code a ≡ singleOf c code b
+ignored : (c : Core) (code a b : ℕ) → a < 0x100 → b < 0x100 → Agree (namedBits code) a b → singleOf c code a ≡ singleOf c code b
 unfolding singleOf
 ignored c code a b ha hb =
     let P : ℕ → Type 0 = λ m. Agree m a b in
@@ -106,28 +106,28 @@ module _ (c : Core) (n a x b y : ℕ) (ha : a < 0x100) (hx : x < 0x100) (hb : b 
   abbrev Both : ℕ × ℕ → Type 0
   Both m = Agree (m .0) a b × Agree (m .1) x y
 
-  mux-same : Both (named2 0x20) → muxSet c a x ≡ muxSet c b y
-  mux-same e = simp (reads (named2 0x20 .0) (λ z. z) tt a b ha hb (e .0), reads (named2 0x20 .1) (λ z. z % 2) tt x y hx hy (e .1))
+  mux-same : Both (namedBits2 0x20) → muxCmd c n a x ≡ muxCmd c n b y
+  mux-same e = simp (reads (namedBits2 0x20 .0) (λ z. z) tt a b ha hb (e .0), reads (namedBits2 0x20 .1) (λ z. z % 2) tt x y hx hy (e .1))
 
-  direction-same : Both (named2 0x23) → directionSet c a x ≡ directionSet c b y
-  direction-same e = simp (reads (named2 0x23 .0) (λ z. z % 32) tt a b ha hb (e .0), reads (named2 0x23 .1) (λ z. z % 32) tt x y hx hy (e .1))
+  direction-same : Both (namedBits2 0x23) → directionCmd c n a x ≡ directionCmd c n b y
+  direction-same e = simp (reads (namedBits2 0x23 .0) (λ z. z % 32) tt a b ha hb (e .0), reads (namedBits2 0x23 .1) (λ z. z % 32) tt x y hx hy (e .1))
 
-  energy-same : Both (named2 0x24) → energySet c a x ≡ energySet c b y
-  energy-same e = simp (reads (named2 0x24 .0) (λ z. z % 32) tt a b ha hb (e .0), reads (named2 0x24 .1) (λ z. z % 32) tt x y hx hy (e .1))
+  energy-same : Both (namedBits2 0x24) → energyCmd c n a x ≡ energyCmd c n b y
+  energy-same e = simp (reads (namedBits2 0x24 .0) (λ z. z % 32) tt a b ha hb (e .0), reads (namedBits2 0x24 .1) (λ z. z % 32) tt x y hx hy (e .1))
 
-  ignored-both : (code : ℕ) → Both (named2 code) → blockOf c code n a x ≡ blockOf c code n b y
+  ignored-both : (code : ℕ) → Both (namedBits2 code) → blockOf c code n a x ≡ blockOf c code n b y
   unfolding blockOf
   ignored-both code =
-      row Both (eqb code 0x20) (λ e. ap (countedOf n) (mux-same e)) (
-      row Both (eqb code 0x23) (λ e. ap (countedOf n) (direction-same e)) (
-      row Both (eqb code 0x24) (λ e. ap (countedOf n) (energy-same e)) (
+      row Both (eqb code 0x20) mux-same (
+      row Both (eqb code 0x23) direction-same (
+      row Both (eqb code 0x24) energy-same (
       λ _. refl)))
 
 -- A core at which every command may be accepted: relay and stepping on, limit 15.
 abbrev ready : Core
 ready =
     record {
-      supply = record { relay = true; stepping = true; level = 0; target = 0; limit = 15 };
+      stop = record { relay = true; stepping = true; level = 0; target = 0; limit = 15 };
       settings = record {
         parallel = false;
         mask = 0;
@@ -143,7 +143,7 @@ digit b = pick b 1 0
 abbrev told : Verdict → ℕ
 told (Deny why) = 0
 told (Apply c) =
-    let s = c .supply in
+    let s = c .stop in
     let x = c .settings .sensor in
     1 + digit (s .relay) + 2 * digit (s .stepping) + 4 * s .target + 64 * s .limit + 1024 * digit (c .settings .parallel) + 2048 * c .settings .mask
     + 16384 * digit (c .settings .iel .clock) + 32768 * digit (c .settings .iel .enable) + 65536 * digit (x .mux .bit)
@@ -168,15 +168,15 @@ module _ (mask : ℕ → ℕ) (none some : ℕ → ℕ → Verdict) (t : Tested 
       contra true false p q z = true≢false (sym q)
       contra false b p q z = true≢false (sym p)
 
-test : Tested named (λ c j. singleOf ready c 0) (λ c j. singleOf ready c (2 ^ j))
-unfolding singleOf carried relayed targeted limited switched modeCmd
+test : Tested namedBits (λ c j. singleOf ready c 0) (λ c j. singleOf ready c (2 ^ j))
+unfolding singleOf carried relayOf targeted limited switched modeCmd
 test = tt
 
-test-first : Tested (λ c. named2 c .0) (λ c j. blockOf ready c 2 0 0) (λ c j. blockOf ready c 2 (2 ^ j) 0)
+test-first : Tested (λ c. namedBits2 c .0) (λ c j. blockOf ready c 2 0 0) (λ c j. blockOf ready c 2 (2 ^ j) 0)
 unfolding blockOf countedOf
 test-first = tt
 
-test-second : Tested (λ c. named2 c .1) (λ c j. blockOf ready c 2 0 0) (λ c j. blockOf ready c 2 0 (2 ^ j))
+test-second : Tested (λ c. namedBits2 c .1) (λ c j. blockOf ready c 2 0 0) (λ c j. blockOf ready c 2 0 (2 ^ j))
 unfolding blockOf countedOf
 test-second = tt
 
@@ -202,7 +202,7 @@ laws =
       unknown2 = unknown2;
       ignored = ignored;
       ignored2 = λ c code n a x b y ha hx hb hy e f. ignored-both c n a x b y ha hx hb hy code (e, f);
-      read = λ code k h l e. (ready, differs named (λ c j. singleOf ready c 0) (λ c j. singleOf ready c (2 ^ j)) test code k h l e);
-      read-first = λ code k h l e. (ready, differs (λ c. named2 c .0) (λ c j. blockOf ready c 2 0 0) (λ c j. blockOf ready c 2 (2 ^ j) 0) test-first code k h l e);
-      read-second = λ code k h l e. (ready, differs (λ c. named2 c .1) (λ c j. blockOf ready c 2 0 0) (λ c j. blockOf ready c 2 0 (2 ^ j)) test-second code k h l e);
+      read = λ code k h l e. (ready, differs namedBits (λ c j. singleOf ready c 0) (λ c j. singleOf ready c (2 ^ j)) test code k h l e);
+      read-first = λ code k h l e. (ready, differs (λ c. namedBits2 c .0) (λ c j. blockOf ready c 2 0 0) (λ c j. blockOf ready c 2 (2 ^ j) 0) test-first code k h l e);
+      read-second = λ code k h l e. (ready, differs (λ c. namedBits2 c .1) (λ c j. blockOf ready c 2 0 0) (λ c j. blockOf ready c 2 0 (2 ^ j)) test-second code k h l e);
     }

@@ -14,7 +14,7 @@ use Rattle.judge.specs.declared.Refusal.{Refusal}
 use Rattle.judge.specs.declared.Refusal.the-variants.{RelayOff, Disabled, OverLimit, StrayWord, RelayBits, WrongCheck, Unsettled, OutOfRange, WrongCount, UnknownCode}
 use Rattle.judge.specs.declared.Verdict.the-variants.{Deny}
 use Rattle.judge.specs.Refusals.{numberOf, raised}
-use Rattle.judge.specs.Commands.{relayCmd, ielCmd, maskCmd, targetCmd, limitCmd, modeCmd, steppingCmd, singleOf, muxSet, directionSet, energySet, countedOf, blockOf}
+use Rattle.judge.specs.Commands.{relayCmd, ielCmd, maskCmd, targetCmd, limitCmd, modeCmd, steppingCmd, singleOf, muxCmd, directionCmd, energyCmd, blockOf}
 
 -- singles and blocks have separate code lists
 abbrev pub singles : List ℕ
@@ -28,8 +28,8 @@ NoneOf [] code = Unit
 NoneOf (k ∷ ks) code = (code ≡ k → ⊥) × NoneOf ks code
 
 -- The bits that the table names: of a single's low byte,
-abbrev pub named : ℕ → ℕ
-named code =
+abbrev pub namedBits : ℕ → ℕ
+namedBits code =
     pick (eqb code 0x08) 0x22 ( -- bit 1 on, bit 5 off
     pick (eqb code 0x0C) 0x03 ( -- bit 0 IEL clock, bit 1 IEL enable
     pick (eqb code 0x26) 0x07 ( -- bits 2-0 head mask
@@ -40,8 +40,8 @@ named code =
     0x00)))))))
 
 -- and of a block's two bytes.
-abbrev pub named2 : ℕ → ℕ × ℕ
-named2 code =
+abbrev pub namedBits2 : ℕ → ℕ × ℕ
+namedBits2 code =
     pick (eqb code 0x20) (0xFF, 0x01) ( -- byte 1, then bit 0 of byte 2
     pick (eqb code 0x23) (0x1F, 0x1F) ( -- start, stop: bits 4-0 of each
     pick (eqb code 0x24) (0x1F, 0x1F) ( -- likewise
@@ -74,15 +74,15 @@ pub record TableLaws : Type 0 where
   pub stepping : (c : Core) (low : ℕ) → singleOf c 0x2D low ≡ steppingCmd c low
   pub unknown : (c : Core) (code low : ℕ) → NoneOf singles code → singleOf c code low ≡ Deny UnknownCode
   -- each listed block is judged by its own row, and an unknown one is 0Fh, whatever its n
-  pub mux : (c : Core) (n x y : ℕ) → blockOf c 0x20 n x y ≡ countedOf n (muxSet c x y)
-  pub direction : (c : Core) (n x y : ℕ) → blockOf c 0x23 n x y ≡ countedOf n (directionSet c x y)
-  pub energy : (c : Core) (n x y : ℕ) → blockOf c 0x24 n x y ≡ countedOf n (energySet c x y)
+  pub mux : (c : Core) (n x y : ℕ) → blockOf c 0x20 n x y ≡ muxCmd c n x y
+  pub direction : (c : Core) (n x y : ℕ) → blockOf c 0x23 n x y ≡ directionCmd c n x y
+  pub energy : (c : Core) (n x y : ℕ) → blockOf c 0x24 n x y ≡ energyCmd c n x y
   pub unknown2 : (c : Core) (code n x y : ℕ) → NoneOf blocks code → blockOf c code n x y ≡ Deny UnknownCode
   -- bits not named are ignored: bytes that agree on the named bits get the same verdict
-  pub ignored : (c : Core) (code a b : ℕ) → a < 0x100 → b < 0x100 → Agree (named code) a b → singleOf c code a ≡ singleOf c code b
+  pub ignored : (c : Core) (code a b : ℕ) → a < 0x100 → b < 0x100 → Agree (namedBits code) a b → singleOf c code a ≡ singleOf c code b
   pub ignored2 : (c : Core) (code n a x b y : ℕ) → a < 0x100 → x < 0x100 → b < 0x100 → y < 0x100
-      → Agree (named2 code .0) a b → Agree (named2 code .1) x y → blockOf c code n a x ≡ blockOf c code n b y
+      → Agree (namedBits2 code .0) a b → Agree (namedBits2 code .1) x y → blockOf c code n a x ≡ blockOf c code n b y
   -- bits named are read: each by itself makes another verdict than no bit, at some core
-  pub read : (code k : ℕ) → code < 64 → k < 8 → has (named code) k ≡ true → (c : Core) × (singleOf c code 0 ≡ singleOf c code (2 ^ k) → ⊥)
-  pub read-first : (code k : ℕ) → code < 64 → k < 8 → has (named2 code .0) k ≡ true → (c : Core) × (blockOf c code 2 0 0 ≡ blockOf c code 2 (2 ^ k) 0 → ⊥)
-  pub read-second : (code k : ℕ) → code < 64 → k < 8 → has (named2 code .1) k ≡ true → (c : Core) × (blockOf c code 2 0 0 ≡ blockOf c code 2 0 (2 ^ k) → ⊥)
+  pub read : (code k : ℕ) → code < 64 → k < 8 → has (namedBits code) k ≡ true → (c : Core) × (singleOf c code 0 ≡ singleOf c code (2 ^ k) → ⊥)
+  pub read-first : (code k : ℕ) → code < 64 → k < 8 → has (namedBits2 code .0) k ≡ true → (c : Core) × (blockOf c code 2 0 0 ≡ blockOf c code 2 (2 ^ k) 0 → ⊥)
+  pub read-second : (code k : ℕ) → code < 64 → k < 8 → has (namedBits2 code .1) k ≡ true → (c : Core) × (blockOf c code 2 0 0 ≡ blockOf c code 2 0 (2 ^ k) → ⊥)

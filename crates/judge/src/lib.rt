@@ -2,8 +2,10 @@
 // Keeps 01 "Command words": the table's rows, their refusals in order; bits not named are ignored.
 ghost use mathlib.Core.Path.{_≡_};
 ghost use Rattle.judge.specs.Refusals.{numberOf, raised};
-ghost use Rattle.judge.specs.Commands.{carried, relayCmd, ielCmd, maskCmd, targetCmd, limitCmd, modeCmd, steppingCmd, singleOf, windowOf, withSensor, muxSet, directionSet, energySet, countedOf, blockOf};
+ghost use Rattle.judge.specs.Records.{withSettings, withSensor, withMux, withDirection, withEnergy};
+ghost use Rattle.judge.specs.Commands.{carried, relayTo, relayCmd, ielCmd, maskCmd, modeCmd, singleOf, muxWord, windowOf, countedOf, blockOf};
 use supply::Change;
+use supply::RelayWord;
 use supply::Supply;
 
 // The multiplexer word: all of byte 1, and bit 0 of byte 2.
@@ -38,7 +40,7 @@ pub struct Settings {
 
 // What commands move. It holds no array, so an enum can hold it.
 pub struct Core {
-    pub supply: Supply,
+    pub stop: Supply,
     pub settings: Settings,
 }
 
@@ -100,18 +102,42 @@ fn carry(core: Core, ch: Change) -> Verdict
     match ch {
         Change::Done(s) => {
             let mut next = core;
-            next.supply = s;
+            next.stop = s;
             Verdict::Apply(next)
         }
         Change::Refused(why) => Verdict::Deny(raise(why)),
     }
 }
 
+// On and off go to the supply.
+fn relay_to(core: Core, on: bool) -> Core
+    ensures { λ r. ⌜ r ≡ relayTo core on ⌝ }
+{
+    let was = core.stop;
+    let stop = supply::set_relay(was, on);
+    let mut next = core;
+    next.stop = stop;
+    next
+}
+
 fn set_relay(core: Core, low: u8) -> Verdict
     ensures { λ r. ⌜ r ≡ relayCmd core low ⌝ }
 {
-    let was = core.supply;
-    carry(core, supply::set_relay(was, low))
+    let word = supply::relay_of(low);
+    match word {
+        RelayWord::On => Verdict::Apply(relay_to(core, true)),
+        RelayWord::Off => Verdict::Apply(relay_to(core, false)),
+        RelayWord::Bad(why) => Verdict::Deny(raise(why)),
+    }
+}
+
+// The core with other settings.
+fn with_settings(core: Core, settings: Settings) -> Core
+    ensures { λ r. ⌜ r ≡ withSettings core settings ⌝ }
+{
+    let mut next = core;
+    next.settings = settings;
+    next
 }
 
 fn set_iel(core: Core, low: u8) -> Verdict
@@ -123,9 +149,7 @@ fn set_iel(core: Core, low: u8) -> Verdict
     };
     let mut s = core.settings;
     s.iel = i;
-    let mut next = core;
-    next.settings = s;
-    Verdict::Apply(next)
+    Verdict::Apply(with_settings(core, s))
 }
 
 fn set_mask(core: Core, low: u8) -> Verdict
@@ -133,65 +157,48 @@ fn set_mask(core: Core, low: u8) -> Verdict
 {
     let mut s = core.settings;
     s.mask = low % 8;
-    let mut next = core;
-    next.settings = s;
-    Verdict::Apply(next)
-}
-
-fn set_target(core: Core, low: u8) -> Verdict
-    ensures { λ r. ⌜ r ≡ targetCmd core low ⌝ }
-{
-    let was = core.supply;
-    carry(core, supply::set_target(was, low))
-}
-
-fn set_limit(core: Core, low: u8) -> Verdict
-    ensures { λ r. ⌜ r ≡ limitCmd core low ⌝ }
-{
-    let was = core.supply;
-    carry(core, supply::set_limit(was, low))
+    Verdict::Apply(with_settings(core, s))
 }
 
 fn set_mode(core: Core, low: u8) -> Verdict
     ensures { λ r. ⌜ r ≡ modeCmd core low ⌝ }
 {
     let mut s = core.settings;
-    let mut next = core;
-    let serial = low == 0;
-    if serial {
+    if low == 0 {
         s.parallel = false;
-        next.settings = s;
-        return Verdict::Apply(next);
+        return Verdict::Apply(with_settings(core, s));
     }
-    let parallel = low == 1;
-    if parallel {
+    if low == 1 {
         s.parallel = true;
-        next.settings = s;
-        return Verdict::Apply(next);
+        return Verdict::Apply(with_settings(core, s));
     }
     Verdict::Deny(Refusal::OutOfRange)
-}
-
-fn set_stepping(core: Core, low: u8) -> Verdict
-    ensures { λ r. ⌜ r ≡ steppingCmd core low ⌝ }
-{
-    let was = core.supply;
-    carry(core, supply::set_stepping(was, low))
 }
 
 // A single: the table's first seven rows.
 pub fn single(core: Core, code: u8, low: u8) -> Verdict
     ensures { λ r. ⌜ r ≡ singleOf core code low ⌝ }
 {
+    let stop = core.stop;
     match code {
         0x08 => set_relay(core, low),
         0x0C => set_iel(core, low),
         0x26 => set_mask(core, low),
-        0x28 => set_target(core, low),
-        0x29 => set_limit(core, low),
+        0x28 => carry(core, supply::set_target(stop, low)),
+        0x29 => carry(core, supply::set_limit(stop, low)),
         0x2B => set_mode(core, low),
-        0x2D => set_stepping(core, low),
+        0x2D => carry(core, supply::set_stepping(stop, low)),
         _ => Verdict::Deny(Refusal::UnknownCode),
+    }
+}
+
+// The multiplexer word: byte 1, and bit 0 of byte 2.
+fn mux_word(first: u8, second: u8) -> Mux
+    ensures { λ r. ⌜ r ≡ muxWord first second ⌝ }
+{
+    Mux {
+        byte: first,
+        bit: second % 2 == 1,
     }
 }
 
@@ -205,56 +212,39 @@ fn window_of(first: u8, second: u8) -> Window
     }
 }
 
-fn set_sensor(core: Core, sensor: Sensor) -> Core
-    ensures { λ r. ⌜ r ≡ withSensor core sensor ⌝ }
+// What the blocks set, with one part replaced.
+fn with_mux(sensor: Sensor, mux: Mux) -> Sensor
+    ensures { λ r. ⌜ r ≡ withMux sensor mux ⌝ }
 {
-    let mut s = core.settings;
-    s.sensor = sensor;
-    let mut next = core;
-    next.settings = s;
+    let mut next = sensor;
+    next.mux = mux;
     next
 }
 
-fn set_mux(core: Core, first: u8, second: u8) -> Core
-    ensures { λ r. ⌜ r ≡ muxSet core first second ⌝ }
+fn with_direction(sensor: Sensor, w: Window) -> Sensor
+    ensures { λ r. ⌜ r ≡ withDirection sensor w ⌝ }
 {
-    let m = Mux {
-        byte: first,
-        bit: second % 2 == 1,
-    };
-    let s = core.settings;
-    let mut sensor = s.sensor;
-    sensor.mux = m;
-    set_sensor(core, sensor)
+    let mut next = sensor;
+    next.direction = w;
+    next
 }
 
-fn set_direction(core: Core, first: u8, second: u8) -> Core
-    ensures { λ r. ⌜ r ≡ directionSet core first second ⌝ }
+fn with_energy(sensor: Sensor, w: Window) -> Sensor
+    ensures { λ r. ⌜ r ≡ withEnergy sensor w ⌝ }
 {
-    let w = window_of(first, second);
-    let s = core.settings;
-    let mut sensor = s.sensor;
-    sensor.direction = w;
-    set_sensor(core, sensor)
-}
-
-fn set_energy(core: Core, first: u8, second: u8) -> Core
-    ensures { λ r. ⌜ r ≡ energySet core first second ⌝ }
-{
-    let w = window_of(first, second);
-    let s = core.settings;
-    let mut sensor = s.sensor;
-    sensor.energy = w;
-    set_sensor(core, sensor)
+    let mut next = sensor;
+    next.energy = w;
+    next
 }
 
 // Every listed block has two data words.
-fn counted(n: u8, core: Core) -> Verdict
-    ensures { λ r. ⌜ r ≡ countedOf n core ⌝ }
+fn counted(n: u8, core: Core, sensor: Sensor) -> Verdict
+    ensures { λ r. ⌜ r ≡ countedOf n core sensor ⌝ }
 {
-    let right = n == 2;
-    if right {
-        return Verdict::Apply(core);
+    if n == 2 {
+        let mut s = core.settings;
+        s.sensor = sensor;
+        return Verdict::Apply(with_settings(core, s));
     }
     Verdict::Deny(Refusal::WrongCount)
 }
@@ -263,10 +253,12 @@ fn counted(n: u8, core: Core) -> Verdict
 pub fn block(core: Core, code: u8, n: u8, first: u8, second: u8) -> Verdict
     ensures { λ r. ⌜ r ≡ blockOf core code n first second ⌝ }
 {
+    let settings = core.settings;
+    let was = settings.sensor;
     match code {
-        0x20 => counted(n, set_mux(core, first, second)),
-        0x23 => counted(n, set_direction(core, first, second)),
-        0x24 => counted(n, set_energy(core, first, second)),
+        0x20 => counted(n, core, with_mux(was, mux_word(first, second))),
+        0x23 => counted(n, core, with_direction(was, window_of(first, second))),
+        0x24 => counted(n, core, with_energy(was, window_of(first, second))),
         _ => Verdict::Deny(Refusal::UnknownCode),
     }
 }

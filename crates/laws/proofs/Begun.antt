@@ -16,7 +16,7 @@ use Rattle.rig.specs.declared.Kind.the-variants.{Single, Head, Data, End}
 use Rattle.rig.specs.declared.Pending.{Pending}
 use Rattle.rig.specs.declared.Rig.{Rig}
 use Rattle.rig.specs.declared.Taken.{Taken}
-use Rattle.rig.specs.Words.{highOf, lowOf, kindOf, keeps, closes, nothingPending, newBlock, oneMore, settledOf, refusedOf, headOf, freshOf, closedOf, afterDrop, dropped, droppedOf, pendingOf, takeOf}
+use Rattle.rig.specs.Words.{highOf, lowOf, kindOf, keeps, closes, nothingPending, newBlock, oneMore, settledOf, refusedOf, headOf, freshOf, closedOf, afterDrop, dropBlock, droppedOf, pendingOf, takeOf}
 use Rattle.laws.specs.Results.{none}
 use Rattle.laws.specs.Replies.{closing}
 use Rattle.laws.specs.Blocks.{holding}
@@ -61,10 +61,10 @@ unfolding pendingOf droppedOf refusedOf closedOf
 end-pending r high low true e = rw e (settled-pending _ (r .pending .head) _)
 end-pending r high low false e = rw e refl
 
-afresh-pending : (r : Rig) (k : Kind) (high low : ℕ) → pendingOf r k high low ≡ afterDrop (freshOf (dropped r) k high low)
+afresh-pending : (r : Rig) (k : Kind) (high low : ℕ) → pendingOf r k high low ≡ afterDrop (freshOf (dropBlock r) k high low)
     → pendingOf r k high low .rig .pending ≡ pick (isHead k && leb low 79) (newBlock high low) nothingPending
 unfolding refusedOf
-afresh-pending r k high low e = ap pendingIn e ∙ fresh-pending (dropped r) k high low
+afresh-pending r k high low e = ap pendingIn e ∙ fresh-pending (dropBlock r) k high low
 
 after-pending : (r : Rig) (k : Kind) (high low : ℕ)
     → pendingOf r k high low .rig .pending

@@ -19,7 +19,6 @@ use Rattle.rig.specs.declared.Rig.{Rig}
 use Rattle.rig.specs.declared.Answer.the-variants.{Accepted, Waiting, Refused}
 use Rattle.rig.specs.declared.Reply.{Reply}
 use Rattle.rig.specs.declared.Reply.the-variants.{Plain, Swallowed, Dropped}
-use Rattle.rig.specs.declared.Judgement.{Judgement}
 use Rattle.rig.specs.declared.Taken.{Taken}
 use Rattle.rig.specs.Words.{nothingPending, newBlock, oneMore, settledOf, refusedOf}
 use Rattle.rig.specs.Replies.{refusalsOf}
@@ -65,7 +64,7 @@ more-fits p low w k l h =
 abbrev pub Fits : Rig → Type 0
 Fits r = CoreFits (r .core) × PendingFits (r .pending)
 
-fresh-fits : {r : Rig} {high low : ℕ} {j : Judgement} → Fresh r high low j → high < 0x100 → Fits r → Fits (j .rig)
+fresh-fits : {r : Rig} {high low : ℕ} {t : Taken} → Fresh r high low t → high < 0x100 → Fits r → Fits (t .rig)
 unfolding settledOf refusedOf
 fresh-fits (judged (Apply c) k) a h = (k (h .0), h .1)
 fresh-fits (judged (Deny why) k) a h = h
@@ -93,22 +92,22 @@ book : {f : Faults} {n e l : ℕ} (high number : ℕ) → Told f n e l → high 
 book high number h a b k = record { count = omega arith; error = refl; last = refl; small = b; known = k; fits = a }
 
 -- the byte that a refusal names, of the rig's own record
-abbrev named : Rig → ℕ → ℕ
-named r w = pick (r .pending .waiting) (r .pending .head) (w / 256)
+abbrev namedByte : Rig → ℕ → ℕ
+namedByte r w = pick (r .pending .waiting) (r .pending .head) (w / 256)
 
 -- a dropped block is booked under its head's byte, which is what it is named by
 dropped-told : (r q : Rig) (w n e l : ℕ) → r .pending .waiting ≡ true → q .faults ≡ bookedDrop r → r .pending .head < 0x100 → Told (r .faults) n e l
-    → Told (q .faults) (n + 1) 0x03 (named r w)
+    → Told (q .faults) (n + 1) 0x03 (namedByte r w)
 dropped-told r q w n e l p f a h =
-    let head : named r w ≡ r .pending .head = ap (λ (b : Bool). pick b (r .pending .head) (w / 256)) p in
+    let head : namedByte r w ≡ r .pending .head = ap (λ (b : Bool). pick b (r .pending .head) (w / 256)) p in
     rw (f, head) (book (r .pending .head) 0x03 h a (omega arith) refl)
 
 pub told : (r q : Rig) (w : ℕ) (y : Reply) (n e l : ℕ) → After r w q y → r .pending .head < 0x100 → w / 256 < 0x100 → Told (r .faults) n e l
-    → Told (q .faults) (n + length (refusalsOf y)) (latestError e y) (latestCode l (named r w) (w / 256) y)
+    → Told (q .faults) (n + length (refusalsOf y)) (latestError e y) (latestCode l (namedByte r w) (w / 256) y)
 told r q w (Plain Accepted) n e l m a b h = rw (m .0, add-zero n) h
 told r q w (Plain Waiting) n e l m a b h = rw (m .1, add-zero n) h
 told r q w (Plain (Refused why)) n e l m a b h =
-    rw (m .1) (book (named r w) (numberOf why) h (by-test (_< 0x100) (r .pending .waiting) (λ p. a) (λ p. b)) (number-is why .0) (number-is why .2))
+    rw (m .1) (book (namedByte r w) (numberOf why) h (by-test (_< 0x100) (r .pending .waiting) (λ p. a) (λ p. b)) (number-is why .0) (number-is why .2))
 told r q w Swallowed n e l m a b h = dropped-told r q w n e l (m .0) (m .2) a h
 told r q w (Dropped Accepted) n e l m a b h = dropped-told r q w n e l (m .0) (m .1) a h
 told r q w (Dropped Waiting) n e l m a b h = dropped-told r q w n e l (m .0) (m .2) a h

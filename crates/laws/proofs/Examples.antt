@@ -5,7 +5,7 @@ use mathlib.Core.Path.{_≡_, refl, ap}
 use mathlib.Core.List.{List, [], _∷_}
 use native.Mathlib.Omega.{arith}
 use lib.ListN.{replicate}
-use Rattle.supply.specs.Rules.{relayed, targeted}
+use Rattle.supply.specs.Rules.{relayOf, targeted}
 use Rattle.crc.specs.Crc.{shift, crcFrom, crcOf}
 use Rattle.judge.specs.declared.Refusal.{Refusal}
 use Rattle.judge.specs.declared.Refusal.the-variants.{StrayWord}
@@ -19,21 +19,21 @@ use Rattle.rig.specs.Words.{kindOf, refusedOf, settledOf, headOf, freshOf, verd
 use Rattle.rig.specs.Start.{startRig}
 use Rattle.laws.specs.Replies.{ReplyLaws}
 use Rattle.laws.specs.Rows.{RowLaws}
-use Rattle.laws.specs.Runs.{Event, word, cut, ours, run, ledger, reached, given}
+use Rattle.laws.specs.Runs.{Happening, word, cut, ours, run, ledger, reached, given}
 use Rattle.laws.proofs.Replies.{reply-laws}
 use Rattle.laws.proofs.Rows.{row-laws}
-use Rattle.laws.proofs.One.{one-rig}
+use Rattle.laws.proofs.One.{one-take}
 
--- the event of a word, its low 16 bits
-abbrev send : ℕ → Event
+-- the happening of a word, its low 16 bits
+abbrev send : ℕ → Happening
 send w = word (w % 0x10000) (omega arith)
 
 -- what a run leaves: invalid count, error code, last invalid code, last check
-abbrev left : List Event → List ℕ
+abbrev left : List Happening → List ℕ
 left es = let r = reached ours es in r .faults .count ∷ r .faults .error ∷ r .faults .last ∷ r .check ∷ []
 
 -- what the ledger says of it: refusals given, number and byte of the latest, check of the latest closing
-abbrev told : List Event → List ℕ
+abbrev told : List Happening → List ℕ
 told es = let l = given ours es in l .refusals ∷ l .error ∷ l .last ∷ l .check ∷ []
 
 runs :
@@ -53,7 +53,7 @@ runs :
     × (left (send 0x6402 ∷ send 0xA401 ∷ send 0xA400 ∷ send 0xE415 ∷ []) ≡ 0 ∷ 0x00 ∷ 0xFF ∷ 0x15 ∷ [])
     × (left (send 0x6402 ∷ send 0xA401 ∷ send 0xA400 ∷ send 0xE407 ∷ []) ≡ 1 ∷ 0x0B ∷ 0x64 ∷ 0x15 ∷ [])
     × (left (send 0x6402 ∷ send 0xA401 ∷ send 0xE415 ∷ []) ≡ 1 ∷ 0x03 ∷ 0x64 ∷ 0x00 ∷ [])
-unfolding run ledger takeOf pendingOf droppedOf closedOf verdictOf freshOf headOf settledOf refusedOf kindOf singleOf blockOf countedOf carried relayed targeted crcOf crcFrom shift
+unfolding run ledger takeOf pendingOf droppedOf closedOf verdictOf freshOf headOf settledOf refusedOf kindOf singleOf blockOf countedOf carried relayOf targeted crcOf crcFrom shift
 runs = (refl, refl, refl, refl, refl, refl, refl, refl, refl, refl, refl)
 
 -- 0C00 at the start is accepted, 8000 is refused 0Bh, by every function under the laws
@@ -66,7 +66,7 @@ unfolding takeOf freshOf settledOf kindOf
 refuses = refl
 
 replies : (take : Rig → ℕ → Taken) → RowLaws take → ReplyLaws take → (w : ℕ) → take startRig w .reply ≡ takeOf startRig w .reply
-replies take a b w = ap (λ (t : Taken). t .reply) (one-rig take takeOf a b row-laws reply-laws startRig w)
+replies take a b w = ap (λ (t : Taken). t .reply) (one-take take takeOf a b row-laws reply-laws startRig w)
 
 -- so none refuses everything,
 refuses-all : (take : Rig → ℕ → Taken) (why : Rig → ℕ → Refusal) → ((r : Rig) (w : ℕ) → take r w .reply ≡ Plain (Refused (why r w)))

@@ -14,7 +14,7 @@ use Rattle.rig.specs.declared.Taken.{Taken}
 use Rattle.rig.specs.Words.{highOf, kindOf}
 use Rattle.laws.specs.Results.{droppedRig}
 use Rattle.laws.specs.Replies.{afterwards, ReplyLaws}
-use Rattle.laws.specs.Rows.{single, Idle, Waits, ExactlyOne, Unlisted, RowLaws, OneRig}
+use Rattle.laws.specs.Rows.{single, Idle, Waits, ExactlyOne, Unlisted, RowLaws, OneTake}
 use Rattle.laws.proofs.WordKinds.{IsKind, kind-of}
 
 -- two things told by the one x of a table are one
@@ -75,8 +75,8 @@ module _ (take other : Rig → ℕ → Taken) (mine : RowLaws take) (yours : Row
       (λ l. let h = eqb-false _ _ l in mine .swallowedEnd r w p e (inr h) ∙ sym (yours .swallowedEnd r w p e (inr h))))
       (λ c. let n = eqb-false _ _ c in mine .swallowedEnd r w p e (inl n) ∙ sym (yours .swallowedEnd r w p e (inl n)))
 
-pub one-rig : OneRig
-one-rig take other mine a yours b r w =
+pub one-take : OneTake
+one-take take other mine a yours b r w =
     let k = kindOf (highOf w) in
     let e = kind-of w k refl in
     split (r .pending .waiting) (λ p. waiting take other mine yours a b r w k p e) (λ i. idle take other mine yours r w k i e)

@@ -19,7 +19,8 @@ use Rattle.rig.specs.declared.Answer.the-variants.{Accepted, Waiting, Refused}
 use Rattle.rig.specs.declared.Reply.{Reply}
 use Rattle.rig.specs.declared.Reply.the-variants.{Plain, Swallowed, Dropped}
 use Rattle.rig.specs.declared.Taken.{Taken}
-use Rattle.rig.specs.Words.{highOf, lowOf, kindOf, settledOf, refusedOf, freshOf, afterDrop, dropped, droppedOf, pendingOf, takeOf}
+use Rattle.rig.specs.Records.{withCore, withFaults, withPending, withCheck}
+use Rattle.rig.specs.Words.{highOf, lowOf, kindOf, settledOf, refusedOf, freshOf, afterDrop, dropBlock, droppedOf, pendingOf, takeOf}
 use Rattle.rig.specs.Replies.{refusalsOf}
 use Rattle.laws.specs.Results.{droppedRig}
 use Rattle.laws.specs.Replies.{After, Apart, afterwards, Never, ReplyLaws}
@@ -29,7 +30,7 @@ use Rattle.laws.proofs.Words.{takes, judged, begun, Case, idle, kept, c
 
 -- a rig in which nothing but core, faults, pending block and last check may differ
 alike : (r : Rig) (c : Core) (f : Faults) (p : Pending) (k : ℕ)
-    → Apart r (record { core = c; faults = f; pending = p; check = k; panel = r .panel; sending = r .sending; edbs = r .edbs })
+    → Apart r (withCheck (withPending (withFaults (withCore r c) f) p) k)
 alike r c f p k = record { panel = refl; sending = refl; edbs = refl }
 
 -- what the reply's kind lets move, what no word moves, and the last check
@@ -50,7 +51,7 @@ moved w (again e j (judged (Deny why) h)) = ((e, record { core = refl; pending =
 moved w (again e j (begun h)) = ((e, refl, refl, refl), alike _ _ _ _ _, refl)
 
 -- a single or a head: the dropped rig has nothing pending, and takes the word by the same rule
-again-is : (r : Rig) (q : ℕ) (k : Kind) (high low : ℕ) → IsKind q k → q < 2 → pendingOf r k high low ≡ afterDrop (freshOf (dropped r) k high low)
+again-is : (r : Rig) (q : ℕ) (k : Kind) (high low : ℕ) → IsKind q k → q < 2 → pendingOf r k high low ≡ afterDrop (freshOf (dropBlock r) k high low)
 unfolding pendingOf droppedOf
 again-is r q Single high low e h = refl
 again-is r q Head high low e h = refl
@@ -64,7 +65,7 @@ afresh r w e h =
     let k = kindOf (highOf w) in
     takes r w e refl
     ∙ again-is r (w / 0x4000) k (highOf w) (lowOf w) (kind-of w k refl) h
-    ∙ ap (λ (t : Taken). record { rig = t .rig; reply = afterwards (t .reply) }) (sym (takes (dropped r) w refl refl))
+    ∙ ap (λ (t : Taken). record { rig = t .rig; reply = afterwards (t .reply) }) (sym (takes (dropBlock r) w refl refl))
 
 -- the number of a refusal: four bits, one of those that there are, and never 07h
 pub number-is : (why : Refusal) → (numberOf why ≤ 15) × (numberOf why ≡ 0x07 → ⊥) × (oneOf codes (numberOf why) ≡ true)

@@ -10,28 +10,31 @@ use borrow.Author.Tests.{eqb-true, eqb-false, eq-eqb, ne-eqb, lt-ltb, le-ltb}
 use Rattle.base.proofs.Cases.{split}
 use Rattle.supply.specs.declared.Supply.{Supply}
 use Rattle.supply.specs.declared.Change.{Change}
-use Rattle.supply.specs.Rules.{relayed, targeted, limited, switched}
+use Rattle.supply.specs.declared.Refusal.the-variants as supply
+use Rattle.supply.specs.declared.RelayWord.{RelayWord}
+use Rattle.supply.specs.declared.RelayWord.the-variants.{On, Off, Bad}
+use Rattle.supply.specs.Rules.{relayOf, targeted, limited, switched}
 use Rattle.supply.specs.When.{RelayWhen, TargetWhen, LimitWhen, StepWhen}
-use Rattle.supply.proofs.When.{relayed-when, targeted-when, limited-when, switched-when}
+use Rattle.supply.proofs.When.{relay-when, targeted-when, limited-when, switched-when}
 use Rattle.crc.specs.Judged.{judgeOf}
 use Rattle.judge.specs.declared.Core.{Core}
 use Rattle.judge.specs.declared.Verdict.{Verdict}
 use Rattle.judge.specs.declared.Verdict.the-variants.{Deny}
 use Rattle.judge.specs.declared.Refusal.the-variants.{StrayWord, WrongCount, UnknownCode}
-use Rattle.judge.specs.Commands.{carried, ielCmd, maskCmd, modeCmd, singleOf, countedOf, blockOf}
+use Rattle.judge.specs.Commands.{carried, ordered, relayCmd, ielCmd, maskCmd, modeCmd, singleOf, countedOf, blockOf}
 use Rattle.rig.specs.declared.Kind.the-variants.{Single, Head, Data, End}
 use Rattle.rig.specs.declared.Pending.{Pending}
 use Rattle.rig.specs.declared.Rig.{Rig}
 use Rattle.rig.specs.declared.Taken.{Taken}
-use Rattle.rig.specs.Words.{highOf, lowOf, codeOf, sameCode, keeps, closes, plain, settledOf, refusedOf, headOf, freshOf, verdictOf, closedOf, droppedOf, pendingOf, takeOf}
+use Rattle.rig.specs.Words.{highOf, lowOf, codeOf, sameCode, keeps, closes, settledOf, refusedOf, headOf, freshOf, verdictOf, closedOf, droppedOf, pendingOf, takeOf}
 use Rattle.laws.specs.Results.{opened, grown, refused, waiting, swallowed, outcome, supplied}
-use Rattle.laws.specs.Rows.{single, Idle, Waits, SameCode, ExactlyOne, SupplyRow, SettingRow, IelWhen, MaskWhen, ModeWhen, serial, parallel, other, Unlisted, PendingWhen, wrongCheck, unknown, wrongCount20, wrongCount23, wrongCount24, multiplexer, direction, energy, RowLaws}
+use Rattle.laws.specs.Rows.{single, Idle, Waits, SameCode, ExactlyOne, SupplyRow, CoreRow, SwitchWhen, on, off, bits, IelWhen, MaskWhen, ModeWhen, serial, parallel, other, Unlisted, PendingWhen, wrongCheck, unknown, wrongCount20, wrongCount23, wrongCount24, multiplexer, direction, energy, RowLaws}
 use Rattle.laws.proofs.Tests.{by-test, not-both}
 use Rattle.laws.proofs.Words.{takes}
 use Rattle.laws.proofs.WordKinds.{of-kind, settled-is, supplied-is}
 
 -- a single of a code, with nothing pending, is judged
-judged : (r : Rig) (code low : ℕ) → code < 64 → low < 256 → Idle r → takeOf r (single code low) ≡ plain (settledOf r code (singleOf (r .core) code low))
+judged : (r : Rig) (code low : ℕ) → code < 64 → low < 256 → Idle r → takeOf r (single code low) ≡ settledOf r code (singleOf (r .core) code low)
 unfolding freshOf
 judged r code low h l i =
     let e : highOf (single code low) ≡ code = omega arith in
@@ -42,7 +45,7 @@ judged r code low h l i =
 
 -- A row: its rule gives the one x that its table allows, and the single comes to what x tells.
 row : {A : Type 0} (code : ℕ) → code < 64 → (rule : Core → ℕ → A) (tells : Core → A → Verdict) (results : Rig → ℕ → A → Taken)
-    → ((r : Rig) (high : ℕ) (x : A) → plain (settledOf r high (tells (r .core) x)) ≡ results r high x)
+    → ((r : Rig) (high : ℕ) (x : A) → settledOf r high (tells (r .core) x) ≡ results r high x)
     → (When : Core → ℕ → A → Type 0)
     → ((c : Core) (low : ℕ) → When c low (rule c low)) → ((c : Core) (low : ℕ) (x : A) → When c low x → x ≡ rule c low)
     → ((c : Core) (low : ℕ) → singleOf c code low ≡ tells c (rule c low))
@@ -53,26 +56,41 @@ row code h rule tells results told When is alone cmd r low l i =
       one = rule (r .core) low;
       is = is (r .core) low;
       alone = alone (r .core) low;
-      then = judged r code low h l i ∙ ap (λ (v : Verdict). plain (settledOf r code v)) (cmd (r .core) low) ∙ told r code (rule (r .core) low);
+      then = judged r code low h l i ∙ ap (settledOf r code) (cmd (r .core) low) ∙ told r code (rule (r .core) low);
     }
 
 -- a row of the supply: its table is the supply's, and says exactly when each answer is given
 supply-row : (code : ℕ) → code < 64 → (rule : Supply → ℕ → Change) (When : Supply → ℕ → Change → Type 0)
     → ((s : Supply) (low : ℕ) (ch : Change) → (rule s low ≡ ch) ↔ When s low ch)
-    → ((c : Core) (low : ℕ) → singleOf c code low ≡ carried c (rule (c .supply) low)) → SupplyRow takeOf code When
+    → ((c : Core) (low : ℕ) → singleOf c code low ≡ carried c (rule (c .stop) low)) → SupplyRow takeOf code When
 supply-row code h rule When when cmd =
-    row code h (λ c low. rule (c .supply) low) carried supplied supplied-is (λ c low. When (c .supply) low)
-    (λ c low. when (c .supply) low (rule (c .supply) low) .0 refl) (λ c low x w. sym (when (c .supply) low x .1 w)) cmd
+    row code h (λ c low. rule (c .stop) low) carried supplied supplied-is (λ c low. When (c .stop) low)
+    (λ c low. when (c .stop) low (rule (c .stop) low) .0 refl) (λ c low x w. sym (when (c .stop) low x .1 w)) cmd
 
--- a row of the settings
-setting-row : (code : ℕ) → code < 64 → (rule : Core → ℕ → Verdict) (When : Core → ℕ → Verdict → Type 0)
+-- a row of the core
+core-row : (code : ℕ) → code < 64 → (rule : Core → ℕ → Verdict) (When : Core → ℕ → Verdict → Type 0)
     → ((c : Core) (low : ℕ) → When c low (rule c low)) → ((c : Core) (low : ℕ) (v : Verdict) → When c low v → v ≡ rule c low)
-    → ((c : Core) (low : ℕ) → singleOf c code low ≡ rule c low) → SettingRow takeOf code When
-setting-row code h rule When = row code h rule (λ c v. v) outcome settled-is When
+    → ((c : Core) (low : ℕ) → singleOf c code low ≡ rule c low) → CoreRow takeOf code When
+core-row code h rule When = row code h rule (λ c v. v) outcome settled-is When
 
-relay08 : SupplyRow takeOf 0x08 RelayWhen
+switch-here : (c : Core) (low : ℕ) (w : RelayWord) → RelayWhen low w → SwitchWhen c low (ordered c w)
+switch-here c low On h = on h
+switch-here c low Off h = off h
+switch-here c low (Bad supply.RelayBits) h = bits h
+switch-here c low (Bad supply.RelayOff) h = absurd h
+switch-here c low (Bad supply.Disabled) h = absurd h
+switch-here c low (Bad supply.OverLimit) h = absurd h
+switch-here c low (Bad supply.Unsettled) h = absurd h
+switch-here c low (Bad supply.OutOfRange) h = absurd h
+
+switch-alone : (c : Core) (low : ℕ) (v : Verdict) → SwitchWhen c low v → v ≡ relayCmd c low
+switch-alone c low v (on h) = ap (ordered c) (sym (relay-when low On .1 h))
+switch-alone c low v (off h) = ap (ordered c) (sym (relay-when low Off .1 h))
+switch-alone c low v (bits h) = ap (ordered c) (sym (relay-when low (Bad supply.RelayBits) .1 h))
+
+relay08 : CoreRow takeOf 0x08 SwitchWhen
 unfolding singleOf
-relay08 = supply-row 0x08 (omega arith) relayed RelayWhen relayed-when (λ c low. refl)
+relay08 = core-row 0x08 (omega arith) relayCmd SwitchWhen (λ c low. switch-here c low (relayOf low) (relay-when low (relayOf low) .0 refl)) switch-alone (λ c low. refl)
 
 target28 : SupplyRow takeOf 0x28 TargetWhen
 unfolding singleOf
@@ -86,13 +104,13 @@ stepping2D : SupplyRow takeOf 0x2D StepWhen
 unfolding singleOf
 stepping2D = supply-row 0x2D (omega arith) switched StepWhen switched-when (λ c low. refl)
 
-iel0C : SettingRow takeOf 0x0C IelWhen
+iel0C : CoreRow takeOf 0x0C IelWhen
 unfolding singleOf
-iel0C = setting-row 0x0C (omega arith) ielCmd IelWhen (λ c low. refl) (λ c low x e. e) (λ c low. refl)
+iel0C = core-row 0x0C (omega arith) ielCmd IelWhen (λ c low. refl) (λ c low x e. e) (λ c low. refl)
 
-mask26 : SettingRow takeOf 0x26 MaskWhen
+mask26 : CoreRow takeOf 0x26 MaskWhen
 unfolding singleOf
-mask26 = setting-row 0x26 (omega arith) maskCmd MaskWhen (λ c low. refl) (λ c low x e. e) (λ c low. refl)
+mask26 = core-row 0x26 (omega arith) maskCmd MaskWhen (λ c low. refl) (λ c low x e. e) (λ c low. refl)
 
 mode-here : (c : Core) (low : ℕ) → ModeWhen c low (modeCmd c low)
 unfolding modeCmd
@@ -107,9 +125,9 @@ mode-alone c low v (serial e) = simp e
 mode-alone c low v (parallel e) = simp e
 mode-alone c low v (other h) = let a : low ≡ 0 → ⊥ = λ e. omega arith in let b : low ≡ 1 → ⊥ = λ e. omega arith in simp (ne-eqb low 0 a, ne-eqb low 1 b)
 
-mode2B : SettingRow takeOf 0x2B ModeWhen
+mode2B : CoreRow takeOf 0x2B ModeWhen
 unfolding singleOf
-mode2B = setting-row 0x2B (omega arith) modeCmd ModeWhen mode-here mode-alone (λ c low. refl)
+mode2B = core-row 0x2B (omega arith) modeCmd ModeWhen mode-here mode-alone (λ c low. refl)
 
 unlisted : (c : Core) (code low : ℕ) → Unlisted code → singleOf c code low ≡ Deny UnknownCode
 unfolding singleOf
@@ -154,7 +172,7 @@ module _ (r : Rig) (w : ℕ) (p : Waits r) where
       let f : closes (r .pending) (highOf w) ≡ false = not-both (sameCode (r .pending) (highOf w)) _ (ne-eqb _ _ ne) in
       takes r w p (of-kind w End e) ∙ rw f
 
-  closed-is : 3 ≤ w / 0x4000 → SameCode r w → r .pending .got ≡ r .pending .n → takeOf r w ≡ plain (closedOf r (lowOf w))
+  closed-is : 3 ≤ w / 0x4000 → SameCode r w → r .pending .got ≡ r .pending .n → takeOf r w ≡ closedOf r (lowOf w)
   unfolding pendingOf
   closed-is e c h = takes r w p (of-kind w End e) ∙ rw (eq-eqb _ _ c, eq-eqb _ _ h)
 
@@ -196,7 +214,7 @@ row-laws =
       mode2B = mode2B;
       stepping2D = stepping2D;
       unknown = λ r code low h l i u.
-          judged r code low h l i ∙ ap (λ (v : Verdict). plain (settledOf r code v)) (unlisted (r .core) code low u) ∙ settled-is r code (Deny UnknownCode);
+          judged r code low h l i ∙ ap (settledOf r code) (unlisted (r .core) code low u) ∙ settled-is r code (Deny UnknownCode);
       long = long;
       waits = waits;
       strayData = strayData;

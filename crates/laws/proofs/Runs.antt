@@ -1,4 +1,4 @@
--- What every run keeps (specs/Runs): one invariant of the rig and its ledger, kept by each event; a run is an induction over its events.
+-- What every run keeps (specs/Runs): one invariant of the rig and its ledger, kept by each happening; a run is an induction over its happenings.
 -- Assumes nothing.
 use Prim.Native.Nat.{ℕ, zero, suc, _+_, _/_, _%_, _<_, _≤_}
 use mathlib.Core.Path.{_≡_, refl, ap, sym, subst, _∙_}
@@ -17,16 +17,17 @@ use Rattle.frame.specs.Read.{remOf, isPlain}
 use Rattle.frame.proofs.Rows.{plain-lt}
 use Rattle.rig.specs.declared.Panel.{Panel}
 use Rattle.power.specs.declared.PanelSetting.{PanelSetting}
-use Rattle.power.specs.declared.PanelSetting.the-variants.{Bias, Ground, FreeTime, Flaps}
+use Rattle.power.specs.declared.PanelSetting.the-variants.{Bias, Ground, FreeTime, Flap1, Flap2, Flap3}
 use Rattle.rig.specs.declared.Sending.{Sending}
 use Rattle.rig.specs.declared.Rig.{Rig}
+use Rattle.rig.specs.Records.{withPanel, withSending}
 use Rattle.rig.specs.Words.{highOf, lowOf, takeOf}
 use Rattle.rig.specs.Replies.{refusalsOf}
 use Rattle.rig.specs.Start.{startRig}
 use Rattle.power.specs.Power.{panelOf, setOf}
 use Rattle.sending.specs.Sending.{heldOf, bit, nextLatch}
 use Rattle.laws.specs.Replies.{closing}
-use Rattle.laws.specs.Runs.{FitsPanel, Event, word, spin, set, cut, frame, ours, after, run, heldAs, Ledger, blank, latestError, latestCode, entered, ledger, reached, given, Bounds, panelBy, Kept, SetMoves, RunLaws}
+use Rattle.laws.specs.Runs.{FitsPanel, Happening, word, spin, set, cut, frame, ours, happened, run, heldAs, Ledger, nothingGiven, latestError, latestCode, entered, ledger, reached, given, Bounds, panelBy, Kept, SetMoves, RunLaws}
 use Rattle.laws.proofs.Tests.{by-test}
 use Rattle.laws.proofs.Words.{case}
 use Rattle.laws.proofs.Replies.{reply-laws}
@@ -52,7 +53,7 @@ record Inv (r : Rig) (l : Ledger) : Type 0 where
   panel : PanelFits (r .panel)
   sending : SendingFits (r .sending)
 
-start-inv : Inv startRig blank
+start-inv : Inv startRig nothingGiven
 start-inv =
     record {
       told = record { count = refl; error = refl; last = refl; small = omega arith; known = refl; fits = omega arith };
@@ -100,9 +101,11 @@ panel-set : (p : Panel) (s : PanelSetting) → FitsPanel s → PanelFits p → P
 panel-set p (Bias b) k h = record { bias = k; ground = h .ground; free = h .free }
 panel-set p (Ground b) k h = record { bias = h .bias; ground = k; free = h .free }
 panel-set p (FreeTime t) k h = record { bias = h .bias; ground = h .ground; free = k }
-panel-set p (Flaps a b c) k h = record { bias = h .bias; ground = h .ground; free = h .free }
+panel-set p (Flap1 b) k h = record { bias = h .bias; ground = h .ground; free = h .free }
+panel-set p (Flap2 b) k h = record { bias = h .bias; ground = h .ground; free = h .free }
+panel-set p (Flap3 b) k h = record { bias = h .bias; ground = h .ground; free = h .free }
 
-after-inv : (r : Rig) (l : Ledger) (e : Event) → Inv r l → Inv (after ours r e) (entered ours r e l)
+after-inv : (r : Rig) (l : Ledger) (e : Happening) → Inv r l → Inv (happened ours r e) (entered ours r e l)
 unfolding setOf
 after-inv r l (word w h) i = word-inv r l w h i
 after-inv r l spin i =
@@ -113,7 +116,7 @@ after-inv r l spin i =
       holds = i .holds;
       check = i .check;
       byte = i .byte;
-      fits = (record { safe = stepped-safe (r .core .supply) (c .safe); quiet = stepped-quiet (r .core .supply) (c .quiet); mask = c .mask; mux = c .mux; direction = c .direction; energy = c .energy }, i .fits .1);
+      fits = (record { safe = stepped-safe (r .core .stop) (c .safe); quiet = stepped-quiet (r .core .stop) (c .quiet); mask = c .mask; mux = c .mux; direction = c .direction; energy = c .energy }, i .fits .1);
       panel = i .panel;
       sending = i .sending;
     }
@@ -127,13 +130,13 @@ after-inv r l frame i =
     let latched : nextLatch r < 0x100000000 = by-test (_< 0x100000000) (eqb at 0) (λ e. long) (λ e. by-test (_< 0x100000000) (eqb at 27) (λ f. free) (λ f. i .sending .latch)) in
     record { told = i .told; counter = i .counter; holds = i .holds; check = i .check; byte = i .byte; fits = i .fits; panel = i .panel; sending = record { next = omega arith; latch = latched } }
 
-run-inv : (r : Rig) (l : Ledger) (es : List Event) → Inv r l → Inv (run ours r es) (ledger ours r l es)
+run-inv : (r : Rig) (l : Ledger) (es : List Happening) → Inv r l → Inv (run ours r es) (ledger ours r l es)
 unfolding run ledger
 run-inv r l [] i = i
-run-inv r l (e ∷ es) i = run-inv (after ours r e) (entered ours r e l) es (after-inv r l e i)
+run-inv r l (e ∷ es) i = run-inv (happened ours r e) (entered ours r e l) es (after-inv r l e i)
 
-always : (es : List Event) → Inv (reached ours es) (given ours es)
-always es = run-inv startRig blank es start-inv
+always : (es : List Happening) → Inv (reached ours es) (given ours es)
+always es = run-inv startRig nothingGiven es start-inv
 
 bounded : {r : Rig} {l : Ledger} → Inv r l → Bounds r
 bounded i =
@@ -198,8 +201,8 @@ small r b =
     let parallel = bit-small (s .parallel) in
     let enable = bit-small (s .iel .enable) in
     let clock = bit-small (s .iel .clock) in
-    let relay = bit-small (r .core .supply .relay) in
-    let stepping = bit-small (r .core .supply .stepping) in
+    let relay = bit-small (r .core .stop .relay) in
+    let stepping = bit-small (r .core .stop .stepping) in
     let flap1 = bit-small (p .flap1) in
     let flap2 = bit-small (p .flap2) in
     let flap3 = bit-small (p .flap3) in
@@ -213,10 +216,12 @@ pub panel-is : (p : Panel) (s : PanelSetting) → panelOf p s ≡ panelBy p s
 panel-is p (Bias b) = refl
 panel-is p (Ground b) = refl
 panel-is p (FreeTime t) = refl
-panel-is p (Flaps a b c) = refl
+panel-is p (Flap1 b) = refl
+panel-is p (Flap2 b) = refl
+panel-is p (Flap3 b) = refl
 
 all-kept : (r : Rig) (p : Panel) (s : Sending)
-    → Kept r (record { core = r .core; faults = r .faults; pending = r .pending; check = r .check; panel = p; sending = s; edbs = r .edbs })
+    → Kept r (withSending (withPanel r p) s)
 all-kept r p s = record { core = refl; faults = refl; pending = refl; check = refl; edbs = refl }
 
 set-moves : (r : Rig) (s : PanelSetting) → SetMoves r s (setOf r s)
@@ -237,6 +242,6 @@ run-laws =
       widths = λ es. widths (reached ours es) (bounded (always es));
       set = set-moves;
       sent = λ r. record { next = refl; latch = refl; panel = refl; kept = all-kept r (r .panel) _ };
-      spin = λ r. record { supply = spin-moves (r .core .supply); edbs = refl; settings = refl; faults = refl; pending = refl; check = refl; panel = refl; sending = refl };
+      spin = λ r. record { stop = spin-moves (r .core .stop); edbs = refl; settings = refl; faults = refl; pending = refl; check = refl; panel = refl; sending = refl };
       cut = λ r. refl;
     }

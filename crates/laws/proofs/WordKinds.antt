@@ -15,7 +15,7 @@ use Rattle.judge.specs.Commands.{carried}
 use Rattle.rig.specs.declared.Kind.{Kind}
 use Rattle.rig.specs.declared.Kind.the-variants.{Single, Head, Data, End}
 use Rattle.rig.specs.declared.Rig.{Rig}
-use Rattle.rig.specs.Words.{highOf, kindOf, closes, plain, settledOf, refusedOf}
+use Rattle.rig.specs.Words.{highOf, kindOf, closes, settledOf, refusedOf}
 use Rattle.laws.specs.Results.{outcome, supplied}
 use Rattle.laws.specs.Replies.{closing}
 use Rattle.laws.proofs.Tests.{by-test}
@@ -113,12 +113,12 @@ pub closing-is : (r : Rig) (w : ℕ) → closing r w ≡ closesIt r w
 closing-is r w = ap (λ (b : Bool). r .pending .waiting && (b && closes (r .pending) (highOf w))) (end-test w)
 
 -- a verdict carried out, and the supply's answer
-pub settled-is : (r : Rig) (high : ℕ) (v : Verdict) → plain (settledOf r high v) ≡ outcome r high v
+pub settled-is : (r : Rig) (high : ℕ) (v : Verdict) → settledOf r high v ≡ outcome r high v
 unfolding settledOf refusedOf
 settled-is r high (Apply c) = refl
 settled-is r high (Deny why) = refl
 
-pub supplied-is : (r : Rig) (high : ℕ) (ch : Change) → plain (settledOf r high (carried (r .core) ch)) ≡ supplied r high ch
+pub supplied-is : (r : Rig) (high : ℕ) (ch : Change) → settledOf r high (carried (r .core) ch) ≡ supplied r high ch
 unfolding settledOf refusedOf carried
 supplied-is r high (supply.Done s) = refl
 supplied-is r high (supply.Refused why) = refl

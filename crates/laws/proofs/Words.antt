@@ -16,33 +16,33 @@ use Rattle.rig.specs.declared.Kind.the-variants.{Single, Head, Data, End}
 use Rattle.rig.specs.declared.Rig.{Rig}
 use Rattle.rig.specs.declared.Answer.the-variants.{Waiting}
 use Rattle.rig.specs.declared.Reply.the-variants.{Plain, Swallowed}
-use Rattle.rig.specs.declared.Judgement.{Judgement}
 use Rattle.rig.specs.declared.Taken.{Taken}
-use Rattle.rig.specs.Words.{highOf, lowOf, kindOf, codeOf, withPending, withCheck, nothingPending, newBlock, oneMore, settledOf, headOf, freshOf, sameCode, keeps, closes, verdictOf, closedOf, plain, afterDrop, dropped, droppedOf, pendingOf, takeOf}
+use Rattle.rig.specs.Records.{withPending, withCheck}
+use Rattle.rig.specs.Words.{highOf, lowOf, kindOf, codeOf, nothingPending, newBlock, oneMore, settledOf, headOf, freshOf, sameCode, keeps, closes, verdictOf, closedOf, afterDrop, dropBlock, droppedOf, pendingOf, takeOf}
 use Rattle.laws.proofs.Tests.{by-test, and-right}
 use Rattle.laws.proofs.WordKinds.{isEnd, closesIt}
 use Rattle.laws.proofs.Commands.{CoreFits, Keeps, single-keeps, verdict-keeps}
 
 -- the decoder's first choice, for a word of a known kind
 pub takes : (r : Rig) (w : ℕ) {b : Bool} {k : Kind} → r .pending .waiting ≡ b → kindOf (highOf w) ≡ k
-    → takeOf r w ≡ pick b (pendingOf r k (highOf w) (lowOf w)) (plain (freshOf r k (highOf w) (lowOf w)))
+    → takeOf r w ≡ pick b (pendingOf r k (highOf w) (lowOf w)) (freshOf r k (highOf w) (lowOf w))
 unfolding takeOf
 takes r w e f = cc
 
 -- a word judged with nothing pending: a verdict, or a new block
-pub data Fresh (r : Rig) (high low : ℕ) : Judgement → Type 0 where
+pub data Fresh (r : Rig) (high low : ℕ) : Taken → Type 0 where
   judged : (v : Verdict) → (CoreFits (r .core) → Keeps v) → Fresh r high low (settledOf r high v)
-  begun : low ≤ 79 → Fresh r high low (record { rig = withPending r (newBlock high low); answer = Waiting })
+  begun : low ≤ 79 → Fresh r high low (record { rig = withPending r (newBlock high low); reply = Plain Waiting })
 
 -- a word taken; the test says whether it closes the pending block
 pub data Case (r : Rig) (high low : ℕ) : Bool → Taken → Type 0 where
-  idle : r .pending .waiting ≡ false → (j : Judgement) → Fresh r high low j → Case r high low false (plain j)
+  idle : r .pending .waiting ≡ false → (t : Taken) → Fresh r high low t → Case r high low false t
   kept : r .pending .waiting ≡ true → r .pending .got < r .pending .n
       → Case r high low false (record { rig = withPending r (oneMore (r .pending) low); reply = Plain Waiting })
   closed : r .pending .waiting ≡ true → (v : Verdict) → (CoreFits (r .core) → r .pending .first < 0x100 → Keeps v)
-      → Case r high low true (plain (settledOf (withCheck (withPending r nothingPending) (r .pending .check)) (r .pending .head) v))
-  swallowed : r .pending .waiting ≡ true → Case r high low false (record { rig = dropped r; reply = Swallowed })
-  again : r .pending .waiting ≡ true → (j : Judgement) → Fresh (dropped r) high low j → Case r high low false (afterDrop j)
+      → Case r high low true (settledOf (withCheck (withPending r nothingPending) (r .pending .check)) (r .pending .head) v)
+  swallowed : r .pending .waiting ≡ true → Case r high low false (record { rig = dropBlock r; reply = Swallowed })
+  again : r .pending .waiting ≡ true → (t : Taken) → Fresh (dropBlock r) high low t → Case r high low false (afterDrop t)
 
 fresh-is : (r : Rig) (k : Kind) (high low : ℕ) → Fresh r high low (freshOf r k high low)
 unfolding freshOf headOf
@@ -63,13 +63,13 @@ end-is r high low false w e = rw e (swallowed w)
 
 pending-is : (r : Rig) (k : Kind) (high low : ℕ) → r .pending .waiting ≡ true → Case r high low (isEnd k && closes (r .pending) high) (pendingOf r k high low)
 unfolding pendingOf droppedOf
-pending-is r Single high low w = again w (freshOf (dropped r) Single high low) (fresh-is (dropped r) Single high low)
-pending-is r Head high low w = again w (freshOf (dropped r) Head high low) (fresh-is (dropped r) Head high low)
+pending-is r Single high low w = again w (freshOf (dropBlock r) Single high low) (fresh-is (dropBlock r) Single high low)
+pending-is r Head high low w = again w (freshOf (dropBlock r) Head high low) (fresh-is (dropBlock r) Head high low)
 pending-is r Data high low w = data-is r high low (keeps (r .pending) high) w refl
 pending-is r End high low w = end-is r high low (closes (r .pending) high) w refl
 
 by-waiting : (r : Rig) (k : Kind) (high low : ℕ) (b : Bool) → r .pending .waiting ≡ b
-    → Case r high low (b && (isEnd k && closes (r .pending) high)) (pick b (pendingOf r k high low) (plain (freshOf r k high low)))
+    → Case r high low (b && (isEnd k && closes (r .pending) high)) (pick b (pendingOf r k high low) (freshOf r k high low))
 by-waiting r k high low true w = pending-is r k high low w
 by-waiting r k high low false w = idle w (freshOf r k high low) (fresh-is r k high low)
 

@@ -1,5 +1,5 @@
--- What the answer to a word leaves of the rig, written out part by part. The laws are said with this and with arithmetic, and with none of the decoder's
--- own helpers, so that the two are written apart. Keeps 01 "Command words". Assumes nothing.
+-- What the answer to a word leaves of the rig, part by part. The laws are said with this and with arithmetic, and with none of the decoder's own
+-- helpers but `withX`, a record with one part replaced: so the two are written apart. Keeps 01 "Command words". Assumes nothing.
 -- A word w is of the kind w / 0x4000 (0 single, 1 head, 2 data, 3 end) and the code w / 256 % 64; its high byte is w / 256, its low byte w % 256.
 use mathlib.Core.Bool.{true, false}
 use Prim.Native.Nat.{ℕ, _+_, _%_}
@@ -13,12 +13,14 @@ use Rattle.judge.specs.declared.Verdict.{Verdict}
 use Rattle.judge.specs.declared.Verdict.the-variants.{Apply, Deny}
 use Rattle.judge.specs.declared.Refusal.{Refusal}
 use Rattle.judge.specs.Refusals.{numberOf, raised}
+use Rattle.judge.specs.Records.{withStop}
 use Rattle.rig.specs.declared.Faults.{Faults}
 use Rattle.rig.specs.declared.Pending.{Pending}
 use Rattle.rig.specs.declared.Rig.{Rig}
 use Rattle.rig.specs.declared.Answer.the-variants.{Accepted, Waiting, Refused}
 use Rattle.rig.specs.declared.Reply.the-variants.{Plain, Swallowed}
 use Rattle.rig.specs.declared.Taken.{Taken}
+use Rattle.rig.specs.Records.{withCore, withFaults, withPending, withCheck}
 
 -- no block pending; a block that a head has begun, of which no data word has come; and one byte more of it: the first two are kept, the check goes on
 abbrev pub none : Pending
@@ -45,40 +47,23 @@ booked f high number = record { error = number; last = high; count = (f .count +
 
 -- the rig in which the block p is pending, and nothing else has moved
 abbrev pub blocked : Rig → Pending → Rig
-blocked r p = record { core = r .core; faults = r .faults; pending = p; check = r .check; panel = r .panel; sending = r .sending; edbs = r .edbs }
+blocked r p = withPending r p
 
 -- the rig whose block was closed: nothing is pending, the last check is k
 abbrev pub closedRig : Rig → ℕ → Rig
-closedRig r k = record { core = r .core; faults = r .faults; pending = none; check = k; panel = r .panel; sending = r .sending; edbs = r .edbs }
+closedRig r k = withCheck (withPending r none) k
 
 -- the rig whose block was dropped: nothing is pending, and 03h is booked under the head's byte
 abbrev pub droppedRig : Rig → ℕ → Rig
-droppedRig r head =
-    record { core = r .core; faults = booked (r .faults) head 0x03; pending = none; check = r .check; panel = r .panel; sending = r .sending; edbs = r .edbs }
+droppedRig r head = withFaults (withPending r none) (booked (r .faults) head 0x03)
 
 -- accepted: the core is c, and nothing else has moved
 abbrev pub accepted : Rig → Core → Taken
-accepted r c =
-    record {
-      rig = record { core = c; faults = r .faults; pending = r .pending; check = r .check; panel = r .panel; sending = r .sending; edbs = r .edbs };
-      reply = Plain Accepted;
-    }
+accepted r c = record { rig = withCore r c; reply = Plain Accepted }
 
 -- refused: booked under that high byte, and nothing else has moved
 abbrev pub refused : Rig → ℕ → Refusal → Taken
-refused r high why =
-    record {
-      rig = record {
-        core = r .core;
-        faults = booked (r .faults) high (numberOf why);
-        pending = r .pending;
-        check = r .check;
-        panel = r .panel;
-        sending = r .sending;
-        edbs = r .edbs;
-      };
-      reply = Plain (Refused why);
-    }
+refused r high why = record { rig = withFaults r (booked (r .faults) high (numberOf why)); reply = Plain (Refused why) }
 
 -- the word waits, with the block p
 abbrev pub waiting : Rig → Pending → Taken
@@ -94,5 +79,5 @@ outcome r high (Apply c) = accepted r c
 outcome r high (Deny why) = refused r high why
 
 abbrev pub supplied : Rig → ℕ → Change → Taken
-supplied r high (supply.Done s) = accepted r (record { supply = s; settings = r .core .settings })
+supplied r high (supply.Done s) = accepted r (withStop (r .core) s)
 supplied r high (supply.Refused why) = refused r high (raised why)

@@ -1,19 +1,21 @@
 -- The command table, row by row, as a reader checks it: each row lists its verdicts with the exact ground of each, in the order of the refusals.
 -- Keeps 01 "Command words": its table, and the paragraphs on words with nothing pending and on pending blocks. Assumes nothing.
 use mathlib.Core.Path.{_≡_}
-use mathlib.Core.Bool.{Bool, true, false}
+use mathlib.Core.Bool.{true, false}
 use mathlib.Core.Logic.{_⊎_}
 use Prim.Native.Nat.{ℕ, _+_, _*_, _/_, _%_, _<_, _≤_}
 use lib.Dec.{eqb}
 use Rattle.supply.specs.declared.Supply.{Supply}
 use Rattle.supply.specs.declared.Change.{Change}
-use Rattle.supply.specs.When.{RelayWhen, TargetWhen, LimitWhen, StepWhen}
+use Rattle.supply.specs.declared.Refusal.the-variants as supply
+use Rattle.supply.specs.declared.RelayWord.the-variants.{On, Off, Bad}
+use Rattle.supply.specs.When.{RelayWhen, relaySet, TargetWhen, LimitWhen, StepWhen}
 use Rattle.judge.specs.declared.Core.{Core}
 use Rattle.judge.specs.declared.Sensor.{Sensor}
-use Rattle.judge.specs.declared.Settings.{Settings}
 use Rattle.judge.specs.declared.Verdict.{Verdict}
 use Rattle.judge.specs.declared.Verdict.the-variants.{Apply, Deny}
-use Rattle.judge.specs.declared.Refusal.the-variants.{StrayWord, WrongCheck, OutOfRange, WrongCount, UnknownCode}
+use Rattle.judge.specs.declared.Refusal.the-variants.{StrayWord, RelayBits, WrongCheck, OutOfRange, WrongCount, UnknownCode}
+use Rattle.judge.specs.Records.{withStop, withSettings, withParallel, withMask, withIel, withSensor, withMux, withDirection, withEnergy}
 use Rattle.rig.specs.declared.Pending.{Pending}
 use Rattle.rig.specs.declared.Rig.{Rig}
 use Rattle.rig.specs.declared.Taken.{Taken}
@@ -42,38 +44,35 @@ pub record ExactlyOne {A : Type 0} (P Q : A → Type 0) : Type 0 where
   pub alone : (x : A) → P x → x ≡ one
   pub then : Q one
 
--- a row whose ground is the supply's: 08h, 28h, 29h, 2Dh. What the supply answers, and when, is said by its own tables.
+-- a row whose ground is the supply's: 28h, 29h, 2Dh. What the supply answers, and when, is said by its own tables.
 abbrev pub SupplyRow : (Rig → ℕ → Taken) → ℕ → (Supply → ℕ → Change → Type 0) → Type 0
 SupplyRow take code when =
     (r : Rig) (low : ℕ) → low < 256 → Idle r
-    → ExactlyOne (when (r .core .supply) low) (λ ch. take r (single code low) ≡ supplied r code ch)
+    → ExactlyOne (when (r .core .stop) low) (λ ch. take r (single code low) ≡ supplied r code ch)
 
--- a row of the settings: 0Ch, 26h, 2Bh
-abbrev pub SettingRow : (Rig → ℕ → Taken) → ℕ → (Core → ℕ → Verdict → Type 0) → Type 0
-SettingRow take code when =
+-- a row of the core: 08h, 0Ch, 26h, 2Bh
+abbrev pub CoreRow : (Rig → ℕ → Taken) → ℕ → (Core → ℕ → Verdict → Type 0) → Type 0
+CoreRow take code when =
     (r : Rig) (low : ℕ) → low < 256 → Idle r → ExactlyOne (when (r .core) low) (λ v. take r (single code low) ≡ outcome r code v)
 
--- the core with other settings, and the supply as it was
-abbrev pub withSettings : Core → Settings → Core
-withSettings c s = record { supply = c .supply; settings = s }
+-- single 08h: whether on, off or neither hangs on the low byte alone; the supply is switched as its table says
+pub data SwitchWhen (c : Core) (low : ℕ) : Verdict → Type 0 where
+  on : RelayWhen low On → SwitchWhen c low (Apply (withStop c (relaySet (c .stop) true)))
+  off : RelayWhen low Off → SwitchWhen c low (Apply (withStop c (relaySet (c .stop) false)))
+  bits : RelayWhen low (Bad supply.RelayBits) → SwitchWhen c low (Deny RelayBits)
 
 -- single 0Ch: bit 0 IEL clock, bit 1 IEL enable; nothing else moves
 abbrev pub IelWhen : Core → ℕ → Verdict → Type 0
-IelWhen c low v =
-    let s = c .settings in
-    v ≡ Apply (withSettings c (record { parallel = s .parallel; mask = s .mask; iel = record { clock = eqb (low % 2) 1; enable = eqb (low / 2 % 2) 1 }; sensor = s .sensor }))
+IelWhen c low v = v ≡ Apply (withSettings c (withIel (c .settings) (record { clock = eqb (low % 2) 1; enable = eqb (low / 2 % 2) 1 })))
 
 -- single 26h: bits 2-0 head mask; nothing else moves
 abbrev pub MaskWhen : Core → ℕ → Verdict → Type 0
-MaskWhen c low v = let s = c .settings in v ≡ Apply (withSettings c (record { parallel = s .parallel; mask = low % 8; iel = s .iel; sensor = s .sensor }))
+MaskWhen c low v = v ≡ Apply (withSettings c (withMask (c .settings) (low % 8)))
 
 -- single 2Bh: the whole low byte counts
-abbrev pub withMode : Core → Bool → Core
-withMode c b = let s = c .settings in withSettings c (record { parallel = b; mask = s .mask; iel = s .iel; sensor = s .sensor })
-
 pub data ModeWhen (c : Core) (low : ℕ) : Verdict → Type 0 where
-  serial : low ≡ 0 → ModeWhen c low (Apply (withMode c false))
-  parallel : low ≡ 1 → ModeWhen c low (Apply (withMode c true))
+  serial : low ≡ 0 → ModeWhen c low (Apply (withSettings c (withParallel (c .settings) false)))
+  parallel : low ≡ 1 → ModeWhen c low (Apply (withSettings c (withParallel (c .settings) true)))
   other : 1 < low → ModeWhen c low (Deny OutOfRange)
 
 -- a code of no row
@@ -87,20 +86,18 @@ pub record Unlisted (code : ℕ) : Type 0 where
   pub not2D : code ≡ 0x2D → ⊥
 
 -- the core with other multiplexer word or windows, and nothing else moved
-abbrev pub withSensor : Core → Sensor → Core
-withSensor c x = let s = c .settings in withSettings c (record { parallel = s .parallel; mask = s .mask; iel = s .iel; sensor = x })
+abbrev pub sensing : Core → Sensor → Core
+sensing c x = withSettings c (withSensor (c .settings) x)
 
--- block 20h: byte 1, then bit 0 of byte 2; blocks 23h and 24h: start, stop, bits 4-0 of each; nothing else moves
-abbrev pub withMultiplexer : Core → ℕ → ℕ → Core
-withMultiplexer c x y =
-    let s = c .settings .sensor in
-    withSensor c (record { mux = record { byte = x; bit = eqb (y % 2) 1 }; direction = s .direction; energy = s .energy })
+-- block 20h: byte 1, then bit 0 of byte 2; blocks 23h and 24h: start, stop, bits 4-0 of each
+abbrev pub multiplexerBy : Core → ℕ → ℕ → Core
+multiplexerBy c x y = sensing c (withMux (c .settings .sensor) (record { byte = x; bit = eqb (y % 2) 1 }))
 
-abbrev pub withDirection : Core → ℕ → ℕ → Core
-withDirection c x y = let s = c .settings .sensor in withSensor c (record { mux = s .mux; direction = record { start = x % 32; stop = y % 32 }; energy = s .energy })
+abbrev pub directionBy : Core → ℕ → ℕ → Core
+directionBy c x y = sensing c (withDirection (c .settings .sensor) (record { start = x % 32; stop = y % 32 }))
 
-abbrev pub withEnergy : Core → ℕ → ℕ → Core
-withEnergy c x y = let s = c .settings .sensor in withSensor c (record { mux = s .mux; direction = s .direction; energy = record { start = x % 32; stop = y % 32 } })
+abbrev pub energyBy : Core → ℕ → ℕ → Core
+energyBy c x y = sensing c (withEnergy (c .settings .sensor) (record { start = x % 32; stop = y % 32 }))
 
 -- A closed block of that code, with n data words of which the first two are x and y, whose check was computed and received: 0Bh, 0Fh, 0Eh in this
 -- order, then apply.
@@ -110,9 +107,9 @@ pub data ClosedWhen (c : Core) (code n x y computed received : ℕ) : Verdict �
   wrongCount20 : received ≡ computed → code ≡ 0x20 → (n ≡ 2 → ⊥) → ClosedWhen c code n x y computed received (Deny WrongCount)
   wrongCount23 : received ≡ computed → code ≡ 0x23 → (n ≡ 2 → ⊥) → ClosedWhen c code n x y computed received (Deny WrongCount)
   wrongCount24 : received ≡ computed → code ≡ 0x24 → (n ≡ 2 → ⊥) → ClosedWhen c code n x y computed received (Deny WrongCount)
-  multiplexer : received ≡ computed → code ≡ 0x20 → n ≡ 2 → ClosedWhen c code n x y computed received (Apply (withMultiplexer c x y))
-  direction : received ≡ computed → code ≡ 0x23 → n ≡ 2 → ClosedWhen c code n x y computed received (Apply (withDirection c x y))
-  energy : received ≡ computed → code ≡ 0x24 → n ≡ 2 → ClosedWhen c code n x y computed received (Apply (withEnergy c x y))
+  multiplexer : received ≡ computed → code ≡ 0x20 → n ≡ 2 → ClosedWhen c code n x y computed received (Apply (multiplexerBy c x y))
+  direction : received ≡ computed → code ≡ 0x23 → n ≡ 2 → ClosedWhen c code n x y computed received (Apply (directionBy c x y))
+  energy : received ≡ computed → code ≡ 0x24 → n ≡ 2 → ClosedWhen c code n x y computed received (Apply (energyBy c x y))
 
 -- the pending block, closed by an end word with this low byte
 abbrev pub PendingWhen : Core → Pending → ℕ → Verdict → Type 0
@@ -121,12 +118,12 @@ PendingWhen c p received = ClosedWhen c (p .head % 64) (p .n) (p .first) (p .sec
 -- The table and the two paragraphs before it, of any function that takes words.
 pub record RowLaws (take : Rig → ℕ → Taken) : Type 0 where
   -- nothing pending: a single is judged by its row
-  pub relay08 : SupplyRow take 0x08 RelayWhen
-  pub iel0C : SettingRow take 0x0C IelWhen
-  pub mask26 : SettingRow take 0x26 MaskWhen
+  pub relay08 : CoreRow take 0x08 SwitchWhen
+  pub iel0C : CoreRow take 0x0C IelWhen
+  pub mask26 : CoreRow take 0x26 MaskWhen
   pub target28 : SupplyRow take 0x28 TargetWhen
   pub limit29 : SupplyRow take 0x29 LimitWhen
-  pub mode2B : SettingRow take 0x2B ModeWhen
+  pub mode2B : CoreRow take 0x2B ModeWhen
   pub stepping2D : SupplyRow take 0x2D StepWhen
   -- an unknown single is 0Fh
   pub unknown : (r : Rig) (code low : ℕ) → code < 64 → low < 256 → Idle r → Unlisted code → take r (single code low) ≡ refused r code UnknownCode
@@ -148,7 +145,7 @@ pub record RowLaws (take : Rig → ℕ → Taken) : Type 0 where
       → take r w ≡ swallowed r (r .pending .head)
 
 -- These laws and those of the replies leave a word one answer and one rig: two functions that keep them agree at every rig and every word.
-abbrev pub OneRig : Type 0
-OneRig =
+abbrev pub OneTake : Type 0
+OneTake =
     (take other : Rig → ℕ → Taken) → RowLaws take → ReplyLaws take → RowLaws other → ReplyLaws other
     → (r : Rig) (w : ℕ) → take r w ≡ other r w

@@ -14,7 +14,7 @@ use Rattle.frame.specs.Read.{remOf, isPlain}
 use Rattle.judge.specs.Refusals.{numberOf}
 use Rattle.supply.specs.Laws.{Quiet, SpinMoves}
 use Rattle.power.specs.declared.PanelSetting.{PanelSetting}
-use Rattle.power.specs.declared.PanelSetting.the-variants.{Bias, Ground, FreeTime, Flaps}
+use Rattle.power.specs.declared.PanelSetting.the-variants.{Bias, Ground, FreeTime, Flap1, Flap2, Flap3}
 use Rattle.rig.specs.declared.Rig.{Rig}
 use Rattle.rig.specs.declared.Answer.the-variants.{Accepted, Waiting, Refused}
 use Rattle.rig.specs.declared.Reply.{Reply}
@@ -22,6 +22,7 @@ use Rattle.rig.specs.declared.Reply.the-variants.{Plain, Swallowed, Dropped}
 use Rattle.rig.specs.declared.Taken.{Taken}
 use Rattle.rig.specs.declared.Panel.{Panel}
 use Rattle.rig.specs.declared.Pending.{Pending}
+use Rattle.rig.specs.Records.{withBias, withGround, withFree, withFlap1, withFlap2, withFlap3}
 use Rattle.rig.specs.Words.{takeOf}
 use Rattle.rig.specs.Replies.{refusalsOf}
 use Rattle.rig.specs.Start.{startRig}
@@ -30,20 +31,22 @@ use Rattle.sending.specs.Sending.{heldOf, sent}
 use Rattle.laws.specs.Results.{none}
 use Rattle.laws.specs.Blocks.{holding}
 
--- a setting is a byte, a 16-bit number or three switches
+-- a setting is a byte, a 16-bit number or a switch
 abbrev pub FitsPanel : PanelSetting → Type 0
 FitsPanel (Bias b) = b < 0x100
 FitsPanel (Ground b) = b < 0x100
 FitsPanel (FreeTime t) = t < 0x10000
-FitsPanel (Flaps a b c) = Unit {0}
+FitsPanel (Flap1 b) = Unit {0}
+FitsPanel (Flap2 b) = Unit {0}
+FitsPanel (Flap3 b) = Unit {0}
 
 -- what can happen to a rig: a word of 16 bits, a spin, a setting, a power cut, a frame built
-pub data Event : Type 0 where
-  word : (w : ℕ) → w < 0x10000 → Event
-  spin : Event
-  set : (s : PanelSetting) → FitsPanel s → Event
-  cut : Event
-  frame : Event
+pub data Happening : Type 0 where
+  word : (w : ℕ) → w < 0x10000 → Happening
+  spin : Happening
+  set : (s : PanelSetting) → FitsPanel s → Happening
+  cut : Happening
+  frame : Happening
 
 -- the functions of a rig
 pub record Machine : Type 0 where
@@ -58,18 +61,18 @@ pub record Machine : Type 0 where
 abbrev pub ours : Machine
 ours = record { start = startRig; take = takeOf; spin = spunOf; set = setOf; cut = cutOf; sent = sent }
 
--- what each event does to the rig
-abbrev pub after : Machine → Rig → Event → Rig
-after m r (word w h) = m .take r w .rig
-after m r spin = m .spin r
-after m r (set s h) = m .set r s
-after m r cut = m .cut r
-after m r frame = m .sent r
+-- what each happening does to the rig
+abbrev pub happened : Machine → Rig → Happening → Rig
+happened m r (word w h) = m .take r w .rig
+happened m r spin = m .spin r
+happened m r (set s h) = m .set r s
+happened m r cut = m .cut r
+happened m r frame = m .sent r
 
--- events in order, any number of them
-unfoldable pub run : Machine → Rig → List Event → Rig
+-- happenings in order, any number of them
+unfoldable pub run : Machine → Rig → List Happening → Rig
 run m r [] = r
-run m r (e ∷ es) = run m (after m r e) es
+run m r (e ∷ es) = run m (happened m r e) es
 
 -- What the words sent have begun, told by the words alone: nothing, or a block with its head's byte, its n, and the low bytes of its data words in order.
 pub data Begun : Type 0 where
@@ -117,8 +120,8 @@ pub record Ledger : Type 0 where
   pub begun : Begun
 
 -- nothing given: 0, and FFh for the code
-abbrev pub blank : Ledger
-blank = record { refusals = 0; spins = 0; error = 0x00; last = 0xFF; check = 0x00; begun = nothing }
+abbrev pub nothingGiven : Ledger
+nothingGiven = record { refusals = 0; spins = 0; error = 0x00; last = 0xFF; check = 0x00; begun = nothing }
 
 -- the number of the latest refusal, after this reply; a dropped block is 03h
 abbrev pub latestError : ℕ → Reply → ℕ
@@ -140,8 +143,8 @@ latestCode old named own (Dropped Accepted) = named
 latestCode old named own (Dropped Waiting) = named
 latestCode old named own (Dropped (Refused why)) = own
 
--- what an event adds: each refusal a word gets is counted, each spin; a power cut begins anew
-abbrev pub entered : Machine → Rig → Event → Ledger → Ledger
+-- what a happening adds: each refusal a word gets is counted, each spin; a power cut begins anew
+abbrev pub entered : Machine → Rig → Happening → Ledger → Ledger
 entered m r (word w h) l =
     let reply = m .take r w .reply in
     record {
@@ -154,21 +157,21 @@ entered m r (word w h) l =
     }
 entered m r spin l = record { refusals = l .refusals; spins = l .spins + 1; error = l .error; last = l .last; check = l .check; begun = l .begun }
 entered m r (set s h) l = l
-entered m r cut l = blank
+entered m r cut l = nothingGiven
 entered m r frame l = l
 
 -- the ledger of a run that begins at the rig r with the ledger l
-unfoldable pub ledger : Machine → Rig → Ledger → List Event → Ledger
+unfoldable pub ledger : Machine → Rig → Ledger → List Happening → Ledger
 ledger m r l [] = l
-ledger m r l (e ∷ es) = ledger m (after m r e) (entered m r e l) es
+ledger m r l (e ∷ es) = ledger m (happened m r e) (entered m r e l) es
 
 -- the rig at the end of a run from the start
-abbrev pub reached : Machine → List Event → Rig
+abbrev pub reached : Machine → List Happening → Rig
 reached m es = run m (m .start) es
 
 -- the ledger at the end of a run from the start
-abbrev pub given : Machine → List Event → Ledger
-given m es = ledger m (m .start) blank es
+abbrev pub given : Machine → List Happening → Ledger
+given m es = ledger m (m .start) nothingGiven es
 
 -- the error codes that there are: none yet, 03h to 06h, 0Bh to 0Fh
 abbrev pub codes : List ℕ
@@ -182,10 +185,10 @@ oneOf (x ∷ xs) n = eqb n x || oneOf xs n
 -- the bounds of every field
 pub record Bounds (r : Rig) : Type 0 where
   -- the supply: target ≤ limit ≤ 15, level ≤ 15; nothing stands while the relay is off
-  pub target : r .core .supply .target ≤ r .core .supply .limit
-  pub limit : r .core .supply .limit ≤ 15
-  pub level : r .core .supply .level ≤ 15
-  pub off : Quiet (r .core .supply)
+  pub target : r .core .stop .target ≤ r .core .stop .limit
+  pub limit : r .core .stop .limit ≤ 15
+  pub level : r .core .stop .level ≤ 15
+  pub off : Quiet (r .core .stop)
   -- the settings
   pub mask : r .core .settings .mask ≤ 7
   pub mux : r .core .settings .sensor .mux .byte < 0x100
@@ -218,7 +221,7 @@ pub record Bounds (r : Rig) : Type 0 where
 -- the rig q after a spin of the rig r: the supply's level goes one towards its target if relay and stepping are on, the counter adds one;
 -- nothing else moves
 pub record Spun (r q : Rig) : Type 0 where
-  pub supply : SpinMoves (r .core .supply) (q .core .supply)
+  pub stop : SpinMoves (r .core .stop) (q .core .stop)
   pub edbs : q .edbs ≡ spinMore (r .edbs)
   pub settings : q .core .settings ≡ r .core .settings
   pub faults : q .faults ≡ r .faults
@@ -229,10 +232,12 @@ pub record Spun (r q : Rig) : Type 0 where
 
 -- the panel after a setting: that part of it alone
 abbrev pub panelBy : Panel → PanelSetting → Panel
-panelBy p (Bias b) = record { bias = b; ground = p .ground; free = p .free; flap1 = p .flap1; flap2 = p .flap2; flap3 = p .flap3 }
-panelBy p (Ground b) = record { bias = p .bias; ground = b; free = p .free; flap1 = p .flap1; flap2 = p .flap2; flap3 = p .flap3 }
-panelBy p (FreeTime t) = record { bias = p .bias; ground = p .ground; free = t; flap1 = p .flap1; flap2 = p .flap2; flap3 = p .flap3 }
-panelBy p (Flaps a b c) = record { bias = p .bias; ground = p .ground; free = p .free; flap1 = a; flap2 = b; flap3 = c }
+panelBy p (Bias b) = withBias p b
+panelBy p (Ground b) = withGround p b
+panelBy p (FreeTime t) = withFree p t
+panelBy p (Flap1 b) = withFlap1 p b
+panelBy p (Flap2 b) = withFlap2 p b
+panelBy p (Flap3 b) = withFlap3 p b
 
 -- what neither a setting nor a frame moves
 pub record Kept (r q : Rig) : Type 0 where
@@ -260,22 +265,22 @@ pub record SentMoves (r q : Rig) : Type 0 where
 -- what every run keeps, of the functions of any rig
 pub record RunLaws (m : Machine) : Type 0 where
   -- the invalid count is the number of refusals given since the last power cut, modulo 256
-  pub count : (es : List Event) → reached m es .faults .count ≡ given m es .refusals % 256
+  pub count : (es : List Happening) → reached m es .faults .count ≡ given m es .refusals % 256
   -- the long EDB counter is the number of spins since the last power cut, modulo 2^32
-  pub counter : (es : List Event) → reached m es .edbs .0 ≡ given m es .spins % 0x100000000
+  pub counter : (es : List Happening) → reached m es .edbs .0 ≡ given m es .spins % 0x100000000
   -- the error code and the last invalid code are those of the latest refusal since the last power cut; 0 and FFh if there was none
-  pub error : (es : List Event) → reached m es .faults .error ≡ given m es .error
-  pub last : (es : List Event) → reached m es .faults .last ≡ given m es .last
+  pub error : (es : List Happening) → reached m es .faults .error ≡ given m es .error
+  pub last : (es : List Happening) → reached m es .faults .last ≡ given m es .last
   -- the error code is one of those that there are
-  pub errors : (es : List Event) → oneOf codes (reached m es .faults .error) ≡ true
+  pub errors : (es : List Happening) → oneOf codes (reached m es .faults .error) ≡ true
   -- the last check is that of the data words sent in the latest block that was closed since the last power cut; 0 if there was none
-  pub check : (es : List Event) → reached m es .check ≡ given m es .check
+  pub check : (es : List Happening) → reached m es .check ≡ given m es .check
   -- the pending block is what the words sent have begun: its head, its n, and the bytes of its data words; or none
-  pub holds : (es : List Event) → reached m es .pending ≡ heldAs (given m es .begun)
+  pub holds : (es : List Happening) → reached m es .pending ≡ heldAs (given m es .begun)
   -- every field keeps its bounds
-  pub bounds : (es : List Event) → Bounds (reached m es)
+  pub bounds : (es : List Happening) → Bounds (reached m es)
   -- what a frame shows of each plain item fits the item's width, so that nothing is cut off
-  pub widths : (es : List Event) (k : ℕ) → isPlain k ≡ true → heldAt (heldOf (reached m es)) k < remOf k
+  pub widths : (es : List Happening) (k : ℕ) → isPlain k ≡ true → heldAt (heldOf (reached m es)) k < remOf k
   -- a setting and a frame move every rig so, and so does a spin; a power cut returns it to the start
   pub set : (r : Rig) (s : PanelSetting) → SetMoves r s (m .set r s)
   pub sent : (r : Rig) → SentMoves r (m .sent r)

@@ -3,7 +3,7 @@
 use mathlib.Core.Path.{_≡_, refl}
 use mathlib.Core.List.{List, [], _∷_, _++_}
 use Prim.Native.Nat.{ℕ}
-use Rattle.supply.specs.Rules.{relayed, targeted, limited, switched}
+use Rattle.supply.specs.Rules.{relayOf, targeted, limited, switched}
 use Rattle.judge.specs.Commands.{carried, singleOf}
 use Rattle.rig.specs.Words.{takeOf, freshOf, settledOf, refusedOf, kindOf}
 use Rattle.listing.specs.Text.{digit, decimal, lineFeed}
@@ -21,5 +21,5 @@ printed =
     ++ (0x69 ∷ 0x6E ∷ 0x76 ∷ 0x61 ∷ 0x6C ∷ 0x69 ∷ 0x64 ∷ 0x20 ∷ 0x31 ∷ 0x20 ∷ 0x6C ∷ 0x61 ∷ 0x73 ∷ 0x74 ∷ 0x20 ∷ 0x32 ∷ 0x38 ∷ 0x20 ∷ 0x63 ∷ 0x6F ∷ 0x64 ∷ 0x65 ∷ 0x20 ∷ 0x30 ∷ 0x36 ∷ lineFeed)  -- invalid 1 last 28 code 06
 
 pub example : listingOf (0x08 ∷ 0x02 ∷ 0x2D ∷ 0x01 ∷ 0x29 ∷ 0x0A ∷ 0x28 ∷ 0x0B ∷ 0x28 ∷ 0x05 ∷ []) ≡ printed
-unfolding relayed targeted limited switched carried singleOf takeOf freshOf settledOf refusedOf kindOf digit decimal
+unfolding relayOf targeted limited switched carried singleOf takeOf freshOf settledOf refusedOf kindOf digit decimal
 example = refl

@@ -2,25 +2,17 @@
 -- Assumes nothing.
 use Rattle.base.specs.Counts.{spinMore}
 use Rattle.supply.specs.Rules.{stepped}
-use Rattle.judge.specs.Commands.{withSupply}
+use Rattle.judge.specs.Records.{withStop}
 use Rattle.rig.specs.declared.Panel.{Panel}
 use Rattle.rig.specs.declared.Rig.{Rig}
+use Rattle.rig.specs.Records.{withCore, withPanel, withEdbs, withBias, withGround, withFree, withFlap1, withFlap2, withFlap3}
 use Rattle.rig.specs.Start.{startRig}
 use Rattle.power.specs.declared.PanelSetting.{PanelSetting}
-use Rattle.power.specs.declared.PanelSetting.the-variants.{Bias, Ground, FreeTime, Flaps}
+use Rattle.power.specs.declared.PanelSetting.the-variants.{Bias, Ground, FreeTime, Flap1, Flap2, Flap3}
 
 -- At a spin, if relay and stepping are on, the level goes one towards the target; the long EDB counter adds one, modulo 2^32.
 abbrev pub spunOf : Rig → Rig
-spunOf r =
-    record {
-      core = withSupply (r .core) (stepped (r .core .supply));
-      faults = r .faults;
-      pending = r .pending;
-      check = r .check;
-      panel = r .panel;
-      sending = r .sending;
-      edbs = spinMore (r .edbs);
-    }
+spunOf r = withEdbs (withCore r (withStop (r .core) (stepped (r .core .stop)))) (spinMore (r .edbs))
 
 -- Power cut: the rig returns to its start; a pending block is forgotten unrefused.
 abbrev pub cutOf : Rig → Rig
@@ -28,11 +20,12 @@ cutOf r = startRig
 
 -- Settings by the instructor: bias and ground bytes, free time, flaps 1 to 3.
 abbrev pub panelOf : Panel → PanelSetting → Panel
-panelOf p (Bias b) = record { bias = b; ground = p .ground; free = p .free; flap1 = p .flap1; flap2 = p .flap2; flap3 = p .flap3 }
-panelOf p (Ground b) = record { bias = p .bias; ground = b; free = p .free; flap1 = p .flap1; flap2 = p .flap2; flap3 = p .flap3 }
-panelOf p (FreeTime t) = record { bias = p .bias; ground = p .ground; free = t; flap1 = p .flap1; flap2 = p .flap2; flap3 = p .flap3 }
-panelOf p (Flaps a b c) = record { bias = p .bias; ground = p .ground; free = p .free; flap1 = a; flap2 = b; flap3 = c }
+panelOf p (Bias b) = withBias p b
+panelOf p (Ground b) = withGround p b
+panelOf p (FreeTime t) = withFree p t
+panelOf p (Flap1 b) = withFlap1 p b
+panelOf p (Flap2 b) = withFlap2 p b
+panelOf p (Flap3 b) = withFlap3 p b
 
 unfoldable pub setOf : Rig → PanelSetting → Rig
-setOf r s =
-    record { core = r .core; faults = r .faults; pending = r .pending; check = r .check; panel = panelOf (r .panel) s; sending = r .sending; edbs = r .edbs }
+setOf r s = withPanel r (panelOf (r .panel) s)

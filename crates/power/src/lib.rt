@@ -10,7 +10,9 @@ pub enum PanelSetting {
     Bias(u8),
     Ground(u8),
     FreeTime(u16),
-    Flaps(bool, bool, bool),
+    Flap1(bool),
+    Flap2(bool),
+    Flap3(bool),
 }
 
 // A power cut: a pending block is forgotten unrefused, with all else.
@@ -25,9 +27,9 @@ pub fn spin(rig: Rig) -> Rig
     ensures { λ r. ⌜ r ≡ spunOf rig ⌝ }
 {
     let mut core = rig.core;
-    let was = core.supply;
+    let was = core.stop;
     let s = supply::spun(was);
-    core.supply = s;
+    core.stop = s;
     let edbs = base::spin_more(rig.edbs);
     let mut next = rig;
     next.core = core;
@@ -52,10 +54,16 @@ fn turned(panel: Panel, setting: PanelSetting) -> Panel
             p.free = t;
             p
         }
-        PanelSetting::Flaps(a, b, c) => {
-            p.flap1 = a;
-            p.flap2 = b;
-            p.flap3 = c;
+        PanelSetting::Flap1(open) => {
+            p.flap1 = open;
+            p
+        }
+        PanelSetting::Flap2(open) => {
+            p.flap2 = open;
+            p
+        }
+        PanelSetting::Flap3(open) => {
+            p.flap3 = open;
             p
         }
     }

@@ -1,4 +1,5 @@
 -- The rules of the rig.
+pub mod Records
 pub mod Words
 pub mod Ways
 pub mod Replies

@@ -2,11 +2,13 @@
 -- Assumes nothing.
 use Prim.Native.Nat.{ℕ}
 use mathlib.Core.List.{List, [], _∷_}
+use lib.ListN.{length, getD}
 use Rattle.judge.specs.Refusals.{numberOf}
 use Rattle.rig.specs.declared.Answer.{Answer}
 use Rattle.rig.specs.declared.Answer.the-variants.{Accepted, Waiting, Refused}
 use Rattle.rig.specs.declared.Reply.{Reply}
 use Rattle.rig.specs.declared.Reply.the-variants.{Plain, Swallowed, Dropped}
+use Rattle.rig.specs.declared.Numbers.{Numbers}
 use Rattle.rig.specs.Words.{dropNumber}
 
 abbrev pub answerRefusals : Answer → List ℕ
@@ -19,3 +21,7 @@ abbrev pub refusalsOf : Reply → List ℕ
 refusalsOf (Plain a) = answerRefusals a
 refusalsOf Swallowed = dropNumber ∷ []
 refusalsOf (Dropped a) = dropNumber ∷ answerRefusals a
+
+-- a list of numbers, two at most: how many, and each, 0 where there is none
+abbrev pub numbersIn : List ℕ → Numbers
+numbersIn ns = record { count = length ns; first = getD ns 0 0; second = getD ns 1 0 }

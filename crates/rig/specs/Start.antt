@@ -11,7 +11,7 @@ use Rattle.rig.specs.Words.{nothingPending}
 abbrev pub startCore : Core
 startCore =
     record {
-      supply = record { relay = false; stepping = false; level = 0; target = 0; limit = 0 };
+      stop = record { relay = false; stepping = false; level = 0; target = 0; limit = 0 };
       settings = record {
         parallel = false;
         mask = 7;

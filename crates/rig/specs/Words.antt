@@ -16,13 +16,13 @@ use Rattle.judge.specs.Refusals.{numberOf}
 use Rattle.judge.specs.Commands.{singleOf, blockOf}
 use Rattle.rig.specs.declared.Kind.{Kind}
 use Rattle.rig.specs.declared.Kind.the-variants.{Single, Head, Data, End}
-use Rattle.rig.specs.declared.Faults.{Faults}
 use Rattle.rig.specs.declared.Pending.{Pending}
 use Rattle.rig.specs.declared.Rig.{Rig}
 use Rattle.rig.specs.declared.Answer.the-variants.{Accepted, Waiting, Refused}
+use Rattle.rig.specs.declared.Reply.{Reply}
 use Rattle.rig.specs.declared.Reply.the-variants.{Plain, Swallowed, Dropped}
-use Rattle.rig.specs.declared.Judgement.{Judgement}
 use Rattle.rig.specs.declared.Taken.{Taken}
+use Rattle.rig.specs.Records.{withCore, withFaults, withPending, withCheck}
 
 -- A word is 16 bits: a high byte and a low byte. The high byte's top two bits are its kind, the other six the code.
 abbrev pub highOf : ℕ → ℕ
@@ -36,19 +36,6 @@ kindOf high = pick (eqb (high / 64) 0) Single (pick (eqb (high / 64) 1) Head (pi
 
 abbrev pub codeOf : ℕ → ℕ
 codeOf high = high % 64
-
--- the rig with one part changed, and nothing else
-abbrev pub withCore : Rig → Core → Rig
-withCore r c = record { core = c; faults = r .faults; pending = r .pending; check = r .check; panel = r .panel; sending = r .sending; edbs = r .edbs }
-
-abbrev pub withFaults : Rig → Faults → Rig
-withFaults r f = record { core = r .core; faults = f; pending = r .pending; check = r .check; panel = r .panel; sending = r .sending; edbs = r .edbs }
-
-abbrev pub withPending : Rig → Pending → Rig
-withPending r p = record { core = r .core; faults = r .faults; pending = p; check = r .check; panel = r .panel; sending = r .sending; edbs = r .edbs }
-
-abbrev pub withCheck : Rig → ℕ → Rig
-withCheck r k = record { core = r .core; faults = r .faults; pending = r .pending; check = k; panel = r .panel; sending = r .sending; edbs = r .edbs }
 
 -- nothing pending is one value; a head begins a block of n data words, none of which has come
 abbrev pub nothingPending : Pending
@@ -76,16 +63,16 @@ unfoldable pub refusedOf : Rig → ℕ → ℕ → Rig
 refusedOf r high number = withFaults r (record { error = number; last = high; count = (r .faults .count + 1) % 256 })
 
 -- A verdict carried out. Acceptance leaves the error code standing; a refusal moves nothing else.
-unfoldable pub settledOf : Rig → ℕ → Verdict → Judgement
-settledOf r high (Apply c) = record { rig = withCore r c; answer = Accepted }
-settledOf r high (Deny why) = record { rig = refusedOf r high (numberOf why); answer = Refused why }
+unfoldable pub settledOf : Rig → ℕ → Verdict → Taken
+settledOf r high (Apply c) = record { rig = withCore r c; reply = Plain Accepted }
+settledOf r high (Deny why) = record { rig = refusedOf r high (numberOf why); reply = Plain (Refused why) }
 
 -- A head with n over 79 is refused 0Eh, otherwise the block waits (n = 0 too).
-unfoldable pub headOf : Rig → ℕ → ℕ → Judgement
-headOf r high n = pick (ltb 79 n) (settledOf r high (Deny WrongCount)) (record { rig = withPending r (newBlock high n); answer = Waiting })
+unfoldable pub headOf : Rig → ℕ → ℕ → Taken
+headOf r high n = pick (ltb 79 n) (settledOf r high (Deny WrongCount)) (record { rig = withPending r (newBlock high n); reply = Plain Waiting })
 
 -- Nothing pending: a single is judged; a head as above; a data or end word is refused 0Bh.
-unfoldable pub freshOf : Rig → Kind → ℕ → ℕ → Judgement
+unfoldable pub freshOf : Rig → Kind → ℕ → ℕ → Taken
 freshOf r Single high low = settledOf r high (singleOf (r .core) (codeOf high) low)
 freshOf r Head high low = headOf r high low
 freshOf r Data high low = settledOf r high (Deny StrayWord)
@@ -108,35 +95,37 @@ unfoldable pub verdictOf : Judged → Core → Pending → Verdict
 verdictOf Right c p = blockOf c (codeOf (p .head)) (p .n) (p .first) (p .second)
 verdictOf Wrong c p = Deny WrongCheck
 
-unfoldable pub closedOf : Rig → ℕ → Judgement
+unfoldable pub closedOf : Rig → ℕ → Taken
 closedOf r low =
     settledOf (withCheck (withPending r nothingPending) (r .pending .check)) (r .pending .head)
     (verdictOf (judgeOf (r .pending .check) low) (r .core) (r .pending))
 
 -- Each other word drops the block, refused 03h under the head's byte. A dropping data or end word is swallowed with it; a dropping single or head is
 -- then judged afresh, so one word can give two answers.
-abbrev pub plain : Judgement → Taken
-plain j = record { rig = j .rig; reply = Plain (j .answer) }
+abbrev pub droppedReply : Reply → Reply
+droppedReply (Plain a) = Dropped a
+droppedReply Swallowed = Swallowed
+droppedReply (Dropped a) = Dropped a
 
-abbrev pub afterDrop : Judgement → Taken
-afterDrop j = record { rig = j .rig; reply = Dropped (j .answer) }
+abbrev pub afterDrop : Taken → Taken
+afterDrop t = record { rig = t .rig; reply = droppedReply (t .reply) }
 
 abbrev pub dropNumber : ℕ
 dropNumber = 0x03
 
-abbrev pub dropped : Rig → Rig
-dropped r = refusedOf (withPending r nothingPending) (r .pending .head) dropNumber
+abbrev pub dropBlock : Rig → Rig
+dropBlock r = refusedOf (withPending r nothingPending) (r .pending .head) dropNumber
 
 unfoldable pub droppedOf : Rig → Kind → ℕ → ℕ → Taken
-droppedOf r Single high low = afterDrop (freshOf (dropped r) Single high low)
-droppedOf r Head high low = afterDrop (freshOf (dropped r) Head high low)
-droppedOf r Data high low = record { rig = dropped r; reply = Swallowed }
-droppedOf r End high low = record { rig = dropped r; reply = Swallowed }
+droppedOf r Single high low = afterDrop (freshOf (dropBlock r) Single high low)
+droppedOf r Head high low = afterDrop (freshOf (dropBlock r) Head high low)
+droppedOf r Data high low = record { rig = dropBlock r; reply = Swallowed }
+droppedOf r End high low = record { rig = dropBlock r; reply = Swallowed }
 
 unfoldable pub pendingOf : Rig → Kind → ℕ → ℕ → Taken
 pendingOf r Data high low =
     pick (keeps (r .pending) high) (record { rig = withPending r (oneMore (r .pending) low); reply = Plain Waiting }) (droppedOf r Data high low)
-pendingOf r End high low = pick (closes (r .pending) high) (plain (closedOf r low)) (droppedOf r End high low)
+pendingOf r End high low = pick (closes (r .pending) high) (closedOf r low) (droppedOf r End high low)
 pendingOf r Single high low = droppedOf r Single high low
 pendingOf r Head high low = droppedOf r Head high low
 
@@ -145,4 +134,4 @@ unfoldable pub takeOf : Rig → ℕ → Taken
 takeOf r word =
     pick (r .pending .waiting)
     (pendingOf r (kindOf (highOf word)) (highOf word) (lowOf word))
-    (plain (freshOf r (kindOf (highOf word)) (highOf word) (lowOf word)))
+    (freshOf r (kindOf (highOf word)) (highOf word) (lowOf word))

@@ -1,4 +1,4 @@
-// The rig: what it is made of, and its start. Its module `words` takes words; `power` and `sending` stand above it.
+// The rig: what it is made of, and its start. Its modules: `words` takes words, `replies` tells a reply's numbers. `power` and `sending` stand above it.
 // Keeps 01 "Command words", and of "Spins and power" the start, to which a power cut returns. The rig goes in by value and comes back.
 ghost use mathlib.Core.Path.{_≡_};
 ghost use Rattle.rig.specs.Words.{nothingPending};
@@ -13,6 +13,7 @@ use judge::Settings;
 use judge::Window;
 use supply::Supply;
 
+pub mod replies; // replies.rt: the numbers of a reply
 pub mod words; // words.rt: one word taken
 
 // The kind of a word.
@@ -91,15 +92,20 @@ pub enum Reply {
     Dropped(Answer),
 }
 
-// The rig after a word was judged, and the answer.
-pub struct Judgement {
-    pub rig: Rig,
-    pub answer: Answer,
-}
+// The number of a dropped block.
+const DROPPED: u8 = 0x03;
 
+// The rig after a word, and the reply.
 pub struct Taken {
     pub rig: Rig,
     pub reply: Reply,
+}
+
+// The refusals that a reply gives, by number and in their order: how many, two at most, and 0 where there is none.
+pub struct Numbers {
+    pub count: u8,
+    pub first: u8,
+    pub second: u8,
 }
 
 // No block waits.
@@ -121,7 +127,7 @@ fn nothing() -> Pending
 fn start_core() -> Core
     ensures { λ r. ⌜ r ≡ startCore ⌝ }
 {
-    let supply = Supply {
+    let stop = Supply {
         relay: false,
         stepping: false,
         level: 0,
@@ -146,7 +152,7 @@ fn start_core() -> Core
         },
         sensor,
     };
-    Core { supply, settings }
+    Core { stop, settings }
 }
 
 // The start, to which a power cut returns.

@@ -9,6 +9,7 @@ use Rattle.frame.specs.declared.Wrote.{Wrote}
 use Rattle.frame.specs.declared.Wrote.the-variants.{Done, Refused}
 use Rattle.frame.specs.Write.{frameOf, latchOf, wroteOf, written}
 use Rattle.rig.specs.declared.Rig.{Rig}
+use Rattle.rig.specs.Records.{withSending}
 use Rattle.sending.specs.declared.Built.{Built}
 
 -- a switch is 1 or 0
@@ -21,7 +22,7 @@ abbrev pub heldOf : Rig → Held
 heldOf r =
     let settings = r .core .settings in
     let sensor = settings .sensor in
-    let supply = r .core .supply in
+    let supply = r .core .stop in
     record {
       parallel = bit (settings .parallel);
       mux1 = sensor .mux .byte % 2;
@@ -62,16 +63,7 @@ nextFrame r = frameOf (heldOf r) (r .sending .next) (nextLatch r)
 
 -- A frame built: the index rises modulo 32, and the latch stands. On 18 nothing changes: nothing is latched, no frame is used up.
 abbrev pub sentWith : Wrote → Rig → ℕ → Rig
-sentWith Done r latch =
-    record {
-      core = r .core;
-      faults = r .faults;
-      pending = r .pending;
-      check = r .check;
-      panel = r .panel;
-      sending = record { next = (r .sending .next + 1) % 32; latch = latch };
-      edbs = r .edbs;
-    }
+sentWith Done r latch = withSending r (record { next = (r .sending .next + 1) % 32; latch = latch })
 sentWith (Refused why) r latch = r
 
 -- the rig that has built its next frame

@@ -35,7 +35,7 @@ fn reduced(edbs: Spins) -> u8
 fn held_of(rig: Rig) -> Held
     ensures { λ r. ⌜ r ≡ heldOf rig ⌝ }
 {
-    let supply = rig.core.supply;
+    let supply = rig.core.stop;
     let settings = rig.core.settings;
     let sensor = settings.sensor;
     Held {

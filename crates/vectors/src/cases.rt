@@ -77,7 +77,7 @@ fn direction_window() {
 
 fn limit() {
     let g = case_of(b"g", &[0x29FA]);
-    show_small(b"limit ", g.rig.core.supply.limit);
+    show_small(b"limit ", g.rig.core.stop.limit);
 }
 
 fn show_count(bench: Bench) {

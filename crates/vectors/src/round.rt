@@ -41,7 +41,8 @@ fn setting(k: u32) -> PanelSetting {
         0 => PanelSetting::Bias(0x9A),
         1 => PanelSetting::Ground(0x70),
         2 => PanelSetting::FreeTime(0x1234),
-        _ => PanelSetting::Flaps(true, false, true),
+        3 => PanelSetting::Flap1(true),
+        _ => PanelSetting::Flap3(true),
     }
 }
 
@@ -49,7 +50,7 @@ fn paneled(bench: Bench) -> Bench {
     print::text(b"bias 9Ah, ground 70h, free time 1234h, flaps 1 and 3\n");
     let mut b = bench;
     let mut k: u32 = 0;
-    while k < 4 {
+    while k < 5 {
         b = bench::set(b, setting(k));
         k += 1;
     }

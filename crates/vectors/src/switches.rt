@@ -64,9 +64,9 @@ fn blocks(fresh: Desk) {
 }
 
 fn settings(fresh: Desk) {
-    set(fresh, b"flap 1", PanelSetting::Flaps(true, false, false));
-    set(fresh, b"flap 2", PanelSetting::Flaps(false, true, false));
-    set(fresh, b"flap 3", PanelSetting::Flaps(false, false, true));
+    set(fresh, b"flap 1", PanelSetting::Flap1(true));
+    set(fresh, b"flap 2", PanelSetting::Flap2(true));
+    set(fresh, b"flap 3", PanelSetting::Flap3(true));
     set(fresh, b"bias 9Ah", PanelSetting::Bias(0x9A));
     set(fresh, b"ground 70h", PanelSetting::Ground(0x70));
     set(fresh, b"free time 1234h", PanelSetting::FreeTime(0x1234));

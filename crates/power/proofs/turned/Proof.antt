@@ -16,5 +16,11 @@ returns-3 c = simp (c .before .setting3 .given .1)
 returns-4 : tie.Need-returns-4
 returns-4 c = simp (c .before .setting4 .given .1)
 
+returns-5 : tie.Need-returns-5
+returns-5 c = simp (c .before .setting5 .given .1)
+
+returns-6 : tie.Need-returns-6
+returns-6 c = simp (c .before .setting6 .given .1)
+
 pub turned-spec : {M : Type 1} → statement M
-turned-spec = tie.close (tie.spec (λ c. search needs) (λ c. search needs) (λ c. search needs) (λ c. search needs) returns returns-2 returns-3 returns-4)
+turned-spec = tie.close (tie.spec (λ c. search needs) (λ c. search needs) (λ c. search needs) (λ c. search needs) (λ c. search needs) (λ c. search needs) returns returns-2 returns-3 returns-4 returns-5 returns-6)

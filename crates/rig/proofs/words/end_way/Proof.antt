@@ -4,13 +4,10 @@ use Rattle.rig.proofs.words.end_way.Statement.{statement}
 use Rattle.rig.proofs.words.end_way.Tie as tie
 
 returns : tie.Need-returns
-returns c = simp (c .before .before .if1 .taken, c .if2 .taken)
+returns c = simp (c .if1 .taken)
 
 returns-2 : tie.Need-returns-2
-returns-2 c = simp (c .before .before .if1 .taken, c .if2 .left)
-
-returns-3 : tie.Need-returns-3
-returns-3 c = simp (c .if1 .left)
+returns-2 c = simp (c .if1 .left)
 
 pub end-way-spec : {M : Type 1} → statement M
-end-way-spec = tie.close (tie.spec returns returns-2 returns-3)
+end-way-spec = tie.close (tie.spec returns returns-2)

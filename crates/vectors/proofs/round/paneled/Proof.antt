@@ -10,7 +10,7 @@ abbrev Inv-loop : tie.InvT-loop
 Inv-loop b₀ k₀ b k = Unit
 
 abbrev μ-loop : tie.MeasureT-loop
-μ-loop b₀ k₀ b k = 4 - k
+μ-loop b₀ k₀ b k = 5 - k
 
 pub paneled-spec : {M : Type 1} → statement M
 paneled-spec =
