@@ -22,14 +22,14 @@ pub const PAIR: usize = DROP + LINE;
 
 pub const LAST: usize = 28;
 
-// Whether a page of len bytes has room for so many at a place.
+// Whether a page of len bytes has room for so many at a place. What is asked of the length alone comes first: a loop asks it once.
 fn has_room(at: usize, most: usize, len: usize) -> bool
     ensures { λ r. ⌜ r ≡ leb (at + most) len ⌝ }
 {
-    if len < at {
+    if len < most {
         return false;
     }
-    if len - at < most {
+    if len - most < at {
         return false;
     }
     true
@@ -55,17 +55,20 @@ fn put(text: &[u8], page: &mut [u8], at: usize) -> usize
     next
 }
 
-fn digits_of(word: u16) -> [u8; 4]
-    ensures { λ r. ⌜ r ≡ hexWord word ⌝ }
+fn put_byte(b: u8, page: &mut [u8], at: usize) -> usize
+    requires { ⌜ at + 2 ≤ length (now page) ⌝ }
+    ensures { λ r. ⌜ Puts at (hexByte b) (now (page .entry)) r (now (page .exit)) ⌝ }
 {
-    let high = (word / 256) as u8;
-    let low = (word % 256) as u8;
-    [
-        digit_of(high / 16),
-        digit_of(high % 16),
-        digit_of(low / 16),
-        digit_of(low % 16),
-    ]
+    let digits = [digit_of(b / 16), digit_of(b % 16)];
+    put(&digits, page, at)
+}
+
+fn put_word(word: u16, page: &mut [u8], at: usize) -> usize
+    requires { ⌜ at + WORD ≤ length (now page) ⌝ }
+    ensures { λ r. ⌜ Puts at (hexWord word) (now (page .entry)) r (now (page .exit)) ⌝ }
+{
+    let next = put_byte((word / 256) as u8, page, at);
+    put_byte((word % 256) as u8, page, next)
 }
 
 // A word, and a text behind it.
@@ -73,8 +76,7 @@ fn put_said(word: u16, text: &[u8], page: &mut [u8], at: usize) -> usize
     requires { ⌜ at + WORD + length (now text) ≤ length (now page) ⌝ }
     ensures { λ r. ⌜ Puts at (hexWord word ++ now (text .entry)) (now (page .entry)) r (now (page .exit)) ⌝ }
 {
-    let digits = digits_of(word);
-    let next = put(&digits, page, at);
+    let next = put_word(word, page, at);
     put(text, page, next)
 }
 

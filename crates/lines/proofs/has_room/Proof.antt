@@ -1,4 +1,4 @@
--- `lines::has_room` meets its contract: the place is past the end, or what is left is too little, or neither.
+-- `lines::has_room` meets its contract: the page is too short, or the place is too far on, or neither.
 -- Assumes nothing.
 use Prim.Native.Nat.{_+_, _≤_, _<_}
 use mathlib.Core.Path.{sym}

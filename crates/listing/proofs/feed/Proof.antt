@@ -16,7 +16,8 @@ returns c =
 returns-2 : tie.Need-returns-2
 unfolding fedByte saidByte
 returns-2 c =
-    simp (c .before .before .before .before .before .before .lone .given .1) (rw (c .before .before .before .before .word-of .ensures) at (c .before .before .hear .ensures))
+    let b = c .before .before .before .before in
+    simp (b .before .before .lone .given .1) (rw (b .word-of .ensures) at (c .before .before .hear .ensures))
 
 pub feed-spec : {M : Type 1} → statement M
 feed-spec = tie.close (tie.spec (λ c. search needs) (λ c. search needs) (λ c κs. search needs) (λ c κs. search needs) returns (λ c. search needs) returns-2)

@@ -38,7 +38,8 @@ loop-again c =
       omega (arith, f .ensures .2, inv .1),
       f .kept .1 .1 .0 ∙ inv .2,
       cc (f .ensures .0, inv .3, fed-more (a .lister) (now (a .bytes)) i h),
-      rw (said-more (a .lister) (now (a .bytes)) i h) (chain (inv .4) (rw (inv .3) at (f .ensures .1)) (omega (arith, inv .4 .place, inv .1, l .before .before .before .pre))),
+      rw (said-more (a .lister) (now (a .bytes)) i h)
+          (chain (inv .4) (rw (inv .3) at (f .ensures .1)) (omega (arith, inv .4 .place, inv .1, l .before .before .before .pre))),
     )
 
 returns : tie.Need-returns Inv-loop μ-loop
