@@ -26,8 +26,19 @@ fn failed(lister: Lister, why: &[u8]) -> Turned {
     }
 }
 
+// Writes a text on standard output.
+fn tell(lister: Lister, text: &[u8]) -> Turned {
+    if io::write_all(STDOUT_FILENO, text) {
+        return Turned {
+            lister,
+            next: Next::More,
+        };
+    }
+    failed(lister, b"lister: cannot write\n")
+}
+
 // Reads once and writes the lines of what came.
-fn turn(lister: Lister) -> Turned {
+fn turn(lister: Lister, page: &mut [u8; listing::PAGE]) -> Turned {
     let mut piece = [0u8; listing::PIECE];
     let got = libc::read(STDIN_FILENO, &mut piece);
     if got < 0 {
@@ -40,32 +51,20 @@ fn turn(lister: Lister) -> Turned {
         };
     }
     let n = io::count(got, &piece);
-    let mut page = [0u8; listing::PAGE];
-    let listed = listing::list(lister, &piece, n, &mut page);
-    let after = listed.lister;
+    let listed = listing::list(lister, &piece, n, page);
     let len = listed.len;
-    let is_written = io::write_all(STDOUT_FILENO, &page[..len]);
-    if is_written {
-        return Turned {
-            lister: after,
-            next: Next::More,
-        };
-    }
-    failed(after, b"lister: cannot write\n")
+    let whole: &[u8] = page;
+    tell(listed.lister, &whole[..len])
 }
 
 // Reads to the end of the input. A proved loop has to end, and nothing says that the input does: so it counts its turns down, from 2^64 - 1.
-fn list_all(lister: Lister) -> Turned {
-    let mut now = Turned {
-        lister,
-        next: Next::More,
-    };
+fn list_all(begun: Turned, page: &mut [u8; listing::PAGE]) -> Turned {
+    let mut now = begun;
     let mut turns = u64::MAX;
     while turns > 0 {
-        let state = now.lister;
-        now = turn(state);
         let next = now.next;
         if let Next::More = next {
+            now = turn(now.lister, page);
             turns -= 1;
         } else {
             return now;
@@ -78,21 +77,13 @@ fn main() {
     let mut page = [0u8; listing::PAGE];
     let opened = listing::open(&mut page);
     let len = opened.len;
-    let start = opened.lister;
-    let is_begun = io::write_all(STDOUT_FILENO, &page[..len]);
-    if !is_begun {
-        failed(start, b"lister: cannot write\n");
-        return;
-    }
-    let ended = list_all(start);
-    let state = ended.lister;
+    let begun = tell(opened.lister, &page[..len]);
+    let ended = list_all(begun, &mut page);
     let next = ended.next;
     if let Next::Failed = next {
         return;
     }
+    let state = ended.lister;
     let last = listing::finish(state, &mut page);
-    let is_ended = io::write_all(STDOUT_FILENO, &page[..last]);
-    if !is_ended {
-        failed(state, b"lister: cannot write\n");
-    }
+    tell(state, &page[..last]);
 }

@@ -8,16 +8,17 @@ use lib.Seq.{take-append-seam}
 use Rattle.rig.specs.declared.Rig.{Rig}
 use Rattle.rig.specs.Words.{takeOf}
 use Rattle.rig.specs.Start.{startRig}
-use Rattle.listing.specs.declared.Half.the-variants.{Nothing}
+use Rattle.listing.specs.declared.Lone.the-variants.{Nothing}
 use Rattle.listing.specs.declared.Lister.{Lister}
-use Rattle.listing.specs.Text.{firstLine, linesOf}
-use Rattle.listing.specs.Listing.{wordOf, listingFrom, listingOf, lister, startLister, afterByte, saidByte, after, said, endOf, joined, listedFrom, InPieces}
-use Rattle.listing.specs.Page.{atFront}
-use Rattle.listing.proofs.Pieces.{after-append, said-append}
+use Rattle.lines.specs.Text.{firstLine, linesOf}
+use Rattle.listing.specs.Listing.{wordOf, listingFrom, listingOf, lister, startLister, fedByte, saidByte, fed, said, endOf}
+use Rattle.listing.specs.Listing.{joined, listedFrom, InPieces}
+use Rattle.listing.specs.Front.{atFront}
+use Rattle.listing.proofs.Pieces.{fed-append, said-append}
 
 -- a stream that begins with no byte waiting
-even : (rig : Rig) (bytes : List ℕ) → said (lister rig Nothing) bytes ++ endOf (after (lister rig Nothing) bytes) ≡ listingFrom rig bytes
-unfolding afterByte saidByte
+even : (rig : Rig) (bytes : List ℕ) → said (lister rig Nothing) bytes ++ endOf (fed (lister rig Nothing) bytes) ≡ listingFrom rig bytes
+unfolding fedByte saidByte
 even rig [] = refl
 even rig (b ∷ []) = refl
 even rig (h ∷ l ∷ bytes) =
@@ -25,7 +26,7 @@ even rig (h ∷ l ∷ bytes) =
     ∙ ap (λ (r : List ℕ). linesOf (wordOf h l) (takeOf rig (wordOf h l) .reply) ++ r) (even (takeOf rig (wordOf h l) .rig) bytes)
 
 -- a stream in one piece
-pub whole : (bytes : List ℕ) → firstLine ++ (said startLister bytes ++ endOf (after startLister bytes)) ≡ listingOf bytes
+pub whole : (bytes : List ℕ) → firstLine ++ (said startLister bytes ++ endOf (fed startLister bytes)) ≡ listingOf bytes
 whole bytes = ap (λ (r : List ℕ). firstLine ++ r) (even startRig bytes)
 
 -- what a caller finds at the front of the page is the text
@@ -33,11 +34,11 @@ pub shown : (text page : List ℕ) → take (length text) (atFront text page) �
 shown text page = take-append-seam text (drop (length text) page)
 
 -- pieces are listed as the stream that they make
-together : (l : Lister) (pieces : List (List ℕ)) → listedFrom l pieces ≡ said l (joined pieces) ++ endOf (after l (joined pieces))
+together : (l : Lister) (pieces : List (List ℕ)) → listedFrom l pieces ≡ said l (joined pieces) ++ endOf (fed l (joined pieces))
 together l [] = refl
 together l (p ∷ pieces) =
-    ap (λ (r : List ℕ). said l p ++ r) (together (after l p) pieces)
-    ∙ rw (said-append, after-append) (sym (append-assoc (said l p) (said (after l p) (joined pieces)) _))
+    ap (λ (r : List ℕ). said l p ++ r) (together (fed l p) pieces)
+    ∙ rw (said-append, fed-append) (sym (append-assoc (said l p) (said (fed l p) (joined pieces)) _))
 
 pub in-pieces : InPieces
 in-pieces pieces = ap (λ (r : List ℕ). firstLine ++ r) (together startLister pieces) ∙ whole (joined pieces)

@@ -1,5 +1,5 @@
 -- The laws of the lister.
-pub mod Puts
+pub mod Front
 pub mod Pieces
 pub mod Laws
 pub mod Single

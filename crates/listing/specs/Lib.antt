@@ -1,4 +1,3 @@
--- The lister's text.
-pub mod Text
+-- The lister: what a stream of bytes comes to, and where its text stands.
 pub mod Listing
-pub mod Page
+pub mod Front

@@ -7,11 +7,11 @@ use lib.ListN.{length}
 use Rattle.rig.specs.declared.Rig.{Rig}
 use Rattle.rig.specs.Words.{takeOf}
 use Rattle.rig.specs.Start.{startRig}
-use Rattle.listing.specs.declared.Half.{Half}
-use Rattle.listing.specs.declared.Half.the-variants.{Nothing, High}
+use Rattle.listing.specs.declared.Lone.{Lone}
+use Rattle.listing.specs.declared.Lone.the-variants.{Nothing, High}
 use Rattle.listing.specs.declared.Lister.{Lister}
 use Rattle.listing.specs.declared.Listed.{Listed}
-use Rattle.listing.specs.Text.{firstLine, linesOf, oddLine, lastLine}
+use Rattle.lines.specs.Text.{firstLine, linesOf, oddLine, lastLine}
 
 -- Words are read high byte first.
 abbrev pub wordOf : ℕ → ℕ → ℕ
@@ -30,43 +30,43 @@ abbrev pub listingOf : List ℕ → List ℕ
 listingOf bytes = firstLine ++ listingFrom startRig bytes
 
 -- The lister has a rig, and the high byte of a word whose low byte has not come.
-abbrev pub lister : Rig → Half → Lister
-lister rig half = record { rig = rig; half = half }
+abbrev pub lister : Rig → Lone → Lister
+lister rig lone = record { rig = rig; lone = lone }
 
 abbrev pub startLister : Lister
 startLister = lister startRig Nothing
 
 -- One byte: it waits for its low byte, or completes a word, whose lines it brings.
-abbrev pub afterHalf : Rig → Half → ℕ → Lister
-afterHalf rig Nothing b = lister rig (High b)
-afterHalf rig (High h) b = lister (takeOf rig (wordOf h b) .rig) Nothing
+abbrev pub fedLone : Rig → Lone → ℕ → Lister
+fedLone rig Nothing b = lister rig (High b)
+fedLone rig (High h) b = lister (takeOf rig (wordOf h b) .rig) Nothing
 
-abbrev pub saidHalf : Rig → Half → ℕ → List ℕ
-saidHalf rig Nothing b = []
-saidHalf rig (High h) b = linesOf (wordOf h b) (takeOf rig (wordOf h b) .reply)
+abbrev pub saidLone : Rig → Lone → ℕ → List ℕ
+saidLone rig Nothing b = []
+saidLone rig (High h) b = linesOf (wordOf h b) (takeOf rig (wordOf h b) .reply)
 
-unfoldable pub afterByte : Lister → ℕ → Lister
-afterByte l b = afterHalf (l .rig) (l .half) b
+unfoldable pub fedByte : Lister → ℕ → Lister
+fedByte l b = fedLone (l .rig) (l .lone) b
 
 unfoldable pub saidByte : Lister → ℕ → List ℕ
-saidByte l b = saidHalf (l .rig) (l .half) b
+saidByte l b = saidLone (l .rig) (l .lone) b
 
 -- A piece of the stream: the bytes in order.
-abbrev pub after : Lister → List ℕ → Lister
-after l [] = l
-after l (b ∷ bytes) = after (afterByte l b) bytes
+abbrev pub fed : Lister → List ℕ → Lister
+fed l [] = l
+fed l (b ∷ bytes) = fed (fedByte l b) bytes
 
 abbrev pub said : Lister → List ℕ → List ℕ
 said l [] = []
-said l (b ∷ bytes) = saidByte l b ++ said (afterByte l b) bytes
+said l (b ∷ bytes) = saidByte l b ++ said (fedByte l b) bytes
 
 -- The end of the stream.
-abbrev pub oddOf : Half → List ℕ
+abbrev pub oddOf : Lone → List ℕ
 oddOf Nothing = []
 oddOf (High h) = oddLine
 
 abbrev pub endOf : Lister → List ℕ
-endOf l = oddOf (l .half) ++ lastLine (l .rig .faults)
+endOf l = oddOf (l .lone) ++ lastLine (l .rig .faults)
 
 -- A stream that comes in pieces: the text of each piece, from where the one before left the lister, and then the end.
 abbrev pub joined : List (List ℕ) → List ℕ
@@ -75,7 +75,7 @@ joined (piece ∷ pieces) = piece ++ joined pieces
 
 abbrev pub listedFrom : Lister → List (List ℕ) → List ℕ
 listedFrom l [] = endOf l
-listedFrom l (piece ∷ pieces) = said l piece ++ listedFrom (after l piece) pieces
+listedFrom l (piece ∷ pieces) = said l piece ++ listedFrom (fed l piece) pieces
 
 -- In whatever pieces a stream comes, the first line, the texts of its pieces and the end are the listing of the whole stream.
 abbrev pub InPieces : Type 0

@@ -1,31 +1,31 @@
-// The lister's text: each word with what the rig answers, in pages that the caller lends. It reads and writes nothing itself.
-// Keeps 01 "Bench cases": the lister's text; words are read high byte first.
+// The lister: bytes in, the page of their lines out. It reads and writes nothing itself.
+// Keeps 01 "Bench cases": the lister; words are read high byte first.
 ghost use mathlib.Core.Path.{_≡_};
-ghost use mathlib.Core.List.{_++_};
-ghost use Prim.Native.Nat.{_+_, _*_, _≤_, _<_, min};
+ghost use Prim.Native.Nat.{_+_, _*_, _≤_};
 ghost use lib.ListN.{length, take};
-ghost use Rattle.listing.specs.Text.{digit, hexByte, hexWord, decimal, invalid, firstLine, answerText, answerLine, droppedLine, linesOf, lastLine};
-ghost use Rattle.listing.specs.Listing.{startLister, afterByte, saidByte, after, said, endOf, listed};
-ghost use Rattle.listing.specs.Page.{atFront, Within, Puts};
-use rig::Answer;
-use rig::Faults;
-use rig::Reply;
+ghost use Rattle.lines.specs.Bounds.{PAIR};
+ghost use Rattle.lines.specs.Page.{Puts};
+ghost use Rattle.lines.specs.Text.{firstLine, linesOf};
+ghost use Rattle.rig.specs.Words.{takeOf};
+ghost use Rattle.listing.specs.declared.Lone.the-variants.{Nothing};
+ghost use Rattle.listing.specs.Listing.{lister, startLister, fedByte, saidByte, fed, said, endOf, listed};
+ghost use Rattle.listing.specs.Front.{atFront, Within};
 use rig::Rig;
 
-// The most bytes of a piece of the stream, and of the page that its text goes to: each byte may bring two lines of 16 bytes.
+// The most bytes of a piece of the stream, and of the page that its text goes to: each byte may bring a pair of lines.
 pub const PIECE: usize = 4096;
 
-pub const PAGE: usize = 131072;
+pub const PAGE: usize = PIECE * lines::PAIR;
 
 // The high byte of a word whose low byte has not come.
-pub enum Half {
+pub enum Lone {
     Nothing,
     High(u8),
 }
 
 pub struct Lister {
     pub rig: Rig,
-    pub half: Half,
+    pub lone: Lone,
 }
 
 // The lister after a piece, and how many bytes of the page its text takes.
@@ -34,175 +34,51 @@ pub struct Listed {
     pub len: usize,
 }
 
-fn wide(b: u8) -> u16
-    ensures { λ r. ⌜ (r ≡ b) × (r < 256) ⌝ }
+// A word: the rig takes it, and its lines go to the page.
+fn hear(rig: Rig, word: u16, page: &mut [u8], at: usize) -> Listed
+    requires { ⌜ at + PAIR ≤ length (now page) ⌝ }
+    ensures { λ r. ⌜ (r .lister ≡ lister (takeOf rig word .rig) Nothing)
+        × Puts at (linesOf word (takeOf rig word .reply)) (now (page .entry)) (r .len) (now (page .exit))
+        × (r .len ≤ at + PAIR) ⌝ }
 {
-    b as u16
-}
-
-fn digit_of(d: u8) -> u8
-    requires { ⌜ d < 16 ⌝ }
-    ensures { λ r. ⌜ r ≡ digit d ⌝ }
-{
-    if d < 10 {
-        return b'0' + d;
+    let taken = rig::words::take(rig, word);
+    let next = taken.rig;
+    let reply = taken.reply;
+    let len = lines::put_lines(word, reply, page, at);
+    Listed {
+        lister: Lister {
+            rig: next,
+            lone: Lone::Nothing,
+        },
+        len,
     }
-    b'A' + (d - 10)
-}
-
-// A text into the page at a place; answers the place after it.
-fn put_text(text: &[u8], page: &mut [u8], at: usize) -> usize
-    requires { ⌜ at + length (now text) ≤ length (now page) ⌝ }
-    ensures { λ r. ⌜ Puts at (now (text .entry)) (now (page .entry)) r (now (page .exit)) ⌝ }
-{
-    let next = at + text.len();
-    base::bytes::copy_in(text, &mut page[at..next]);
-    next
-}
-
-fn put_byte(b: u8, page: &mut [u8], at: usize) -> usize
-    requires { ⌜ at + 2 ≤ length (now page) ⌝ }
-    ensures { λ r. ⌜ Puts at (hexByte b) (now (page .entry)) r (now (page .exit)) ⌝ }
-{
-    let text = [digit_of(b / 16), digit_of(b % 16)];
-    put_text(&text, page, at)
-}
-
-fn put_word(word: u16, page: &mut [u8], at: usize) -> usize
-    requires { ⌜ at + 4 ≤ length (now page) ⌝ }
-    ensures { λ r. ⌜ Puts at (hexWord word) (now (page .entry)) r (now (page .exit)) ⌝ }
-{
-    let next = put_byte((word / 256) as u8, page, at);
-    put_byte((word % 256) as u8, page, next)
-}
-
-// The count is decimal, with no zeros in front.
-fn put_decimal(n: u8, page: &mut [u8], at: usize) -> usize
-    requires { ⌜ at + 3 ≤ length (now page) ⌝ }
-    ensures { λ r. ⌜ Puts at (decimal n) (now (page .entry)) r (now (page .exit)) × (r ≤ at + 3) ⌝ }
-{
-    if n < 10 {
-        let text = [digit_of(n)];
-        return put_text(&text, page, at);
-    }
-    if n < 100 {
-        let text = [digit_of(n / 10), digit_of(n % 10)];
-        return put_text(&text, page, at);
-    }
-    let text = [digit_of(n / 100), digit_of(n / 10 % 10), digit_of(n % 10)];
-    put_text(&text, page, at)
-}
-
-// A word of the text, and the byte that it names.
-fn put_named(name: &[u8], b: u8, page: &mut [u8], at: usize) -> usize
-    requires { ⌜ at + length (now name) + 2 ≤ length (now page) ⌝ }
-    ensures { λ r. ⌜ Puts at (now (name .entry) ++ hexByte b) (now (page .entry)) r (now (page .exit)) ⌝ }
-{
-    let next = put_text(name, page, at);
-    put_byte(b, page, next)
-}
-
-fn put_answer(answer: Answer, page: &mut [u8], at: usize) -> usize
-    requires { ⌜ at + 11 ≤ length (now page) ⌝ }
-    ensures { λ r. ⌜ Puts at (answerText answer) (now (page .entry)) r (now (page .exit)) × (r ≤ at + 11) ⌝ }
-{
-    match answer {
-        Answer::Accepted => put_text(b" accepted", page, at),
-        Answer::Waiting => put_text(b" waiting", page, at),
-        Answer::Refused(why) => put_named(b" refused ", judge::number(why), page, at),
-    }
-}
-
-// The line of a judged word.
-fn put_answer_line(word: u16, answer: Answer, page: &mut [u8], at: usize) -> usize
-    requires { ⌜ at + 16 ≤ length (now page) ⌝ }
-    ensures { λ r. ⌜ Puts at (answerLine word answer) (now (page .entry)) r (now (page .exit)) × (r ≤ at + 16) ⌝ }
-{
-    let next = put_word(word, page, at);
-    let end = put_answer(answer, page, next);
-    put_text(b"\n", page, end)
-}
-
-// The line of a word that dropped a block.
-fn put_dropped_line(word: u16, page: &mut [u8], at: usize) -> usize
-    requires { ⌜ at + 16 ≤ length (now page) ⌝ }
-    ensures { λ r. ⌜ Puts at (droppedLine word) (now (page .entry)) r (now (page .exit)) ⌝ }
-{
-    let next = put_word(word, page, at);
-    put_text(b" dropped 03\n", page, next)
-}
-
-// The lines of a word: a dropped block comes first, and both show the new word.
-fn put_lines(word: u16, reply: Reply, page: &mut [u8], at: usize) -> usize
-    requires { ⌜ at + 32 ≤ length (now page) ⌝ }
-    ensures { λ r. ⌜ Puts at (linesOf word reply) (now (page .entry)) r (now (page .exit)) × (r ≤ at + 32) ⌝ }
-{
-    match reply {
-        Reply::Plain(answer) => put_answer_line(word, answer, page, at),
-        Reply::Swallowed => put_dropped_line(word, page, at),
-        Reply::Dropped(answer) => {
-            let next = put_dropped_line(word, page, at);
-            put_answer_line(word, answer, page, next)
-        }
-    }
-}
-
-fn put_count(n: u8, page: &mut [u8], at: usize) -> usize
-    requires { ⌜ at + 11 ≤ length (now page) ⌝ }
-    ensures { λ r. ⌜ Puts at (invalid ++ decimal n) (now (page .entry)) r (now (page .exit)) × (r ≤ at + 11) ⌝ }
-{
-    let next = put_text(b"invalid ", page, at);
-    put_decimal(n, page, next)
-}
-
-fn put_last_line(faults: Faults, page: &mut [u8], at: usize) -> usize
-    requires { ⌜ at + 28 ≤ length (now page) ⌝ }
-    ensures { λ r. ⌜ Puts at (lastLine faults) (now (page .entry)) r (now (page .exit)) ⌝ }
-{
-    let last = put_count(faults.count, page, at);
-    let code = put_named(b" last ", faults.last, page, last);
-    let end = put_named(b" code ", faults.error, page, code);
-    put_text(b"\n", page, end)
 }
 
 // One byte: it waits for its low byte, or completes a word, whose lines go to the page.
 fn feed(lister: Lister, byte: u8, page: &mut [u8], at: usize) -> Listed
-    requires { ⌜ at + 32 ≤ length (now page) ⌝ }
-    ensures { λ r. ⌜ (r .lister ≡ afterByte lister byte)
+    requires { ⌜ at + PAIR ≤ length (now page) ⌝ }
+    ensures { λ r. ⌜ (r .lister ≡ fedByte lister byte)
         × Puts at (saidByte lister byte) (now (page .entry)) (r .len) (now (page .exit))
-        × (r .len ≤ at + 32) ⌝ }
+        × (r .len ≤ at + PAIR) ⌝ }
 {
     let rig = lister.rig;
-    let half = lister.half;
-    match half {
-        Half::Nothing => Listed {
+    let lone = lister.lone;
+    match lone {
+        Lone::Nothing => Listed {
             lister: Lister {
                 rig,
-                half: Half::High(byte),
+                lone: Lone::High(byte),
             },
             len: at,
         },
-        Half::High(high) => {
-            let word = wide(high) * 256 + wide(byte);
-            let taken = rig::words::take(rig, word);
-            let next = taken.rig;
-            let reply = taken.reply;
-            let len = put_lines(word, reply, page, at);
-            Listed {
-                lister: Lister {
-                    rig: next,
-                    half: Half::Nothing,
-                },
-                len,
-            }
-        }
+        Lone::High(high) => hear(rig, base::word_of(high, byte), page, at),
     }
 }
 
 // Bytes in order, from the front of the page on.
 fn run(lister: Lister, bytes: &[u8], page: &mut [u8]) -> Listed
-    requires { ⌜ 32 * length (now bytes) ≤ length (now page) ⌝ }
-    ensures { λ r. ⌜ (r .lister ≡ after lister (now (bytes .entry)))
+    requires { ⌜ PAIR * length (now bytes) ≤ length (now page) ⌝ }
+    ensures { λ r. ⌜ (r .lister ≡ fed lister (now (bytes .entry)))
         × Puts 0 (said lister (now (bytes .entry))) (now (page .entry)) (r .len) (now (page .exit)) ⌝ }
 {
     let mut state = lister;
@@ -224,11 +100,11 @@ pub fn open(page: &mut [u8; PAGE]) -> Listed
         × Within (r .len) (now (page .exit)) ⌝ }
 {
     let rig = rig::start();
-    let len = put_text(b"word answer\n", page, 0);
+    let len = bytes::copy(b"word answer\n", page);
     Listed {
         lister: Lister {
             rig,
-            half: Half::Nothing,
+            lone: Lone::Nothing,
         },
         len,
     }
@@ -236,7 +112,7 @@ pub fn open(page: &mut [u8; PAGE]) -> Listed
 
 // A piece of the stream, of which n bytes came: their text at the front of the page.
 pub fn list(lister: Lister, piece: &[u8; PIECE], n: usize, page: &mut [u8; PAGE]) -> Listed
-    ensures { λ r. ⌜ (r ≡ listed (after lister (take n (now (piece .entry)))) (said lister (take n (now (piece .entry)))))
+    ensures { λ r. ⌜ (r ≡ listed (fed lister (take n (now (piece .entry)))) (said lister (take n (now (piece .entry)))))
         × (now (page .exit) ≡ atFront (said lister (take n (now (piece .entry)))) (now (page .entry)))
         × Within (r .len) (now (page .exit)) ⌝ }
 {
@@ -252,13 +128,13 @@ pub fn finish(lister: Lister, page: &mut [u8; PAGE]) -> usize
         × Within r (now (page .exit)) ⌝ }
 {
     let rig = lister.rig;
-    let half = lister.half;
+    let lone = lister.lone;
     let faults = rig.faults;
-    match half {
-        Half::Nothing => put_last_line(faults, page, 0),
-        Half::High(_) => {
-            let at = put_text(b"odd byte\n", page, 0);
-            put_last_line(faults, page, at)
+    match lone {
+        Lone::Nothing => lines::put_last_line(faults, page, 0),
+        Lone::High(_) => {
+            let at = bytes::copy(b"odd byte\n", page);
+            lines::put_last_line(faults, page, at)
         }
     }
 }

@@ -74,22 +74,22 @@ const WORDS: [u16; 67] = [
 ];
 
 // The first n bytes of a word, as a piece of the stream.
-fn show(lister: Lister, word: u16, n: usize) -> Lister {
+fn show(lister: Lister, word: u16, n: usize, page: &mut [u8; listing::PAGE]) -> Lister {
     let mut piece = [0u8; listing::PIECE];
     piece[0] = (word / 256) as u8;
     piece[1] = (word % 256) as u8;
-    let mut page = [0u8; listing::PAGE];
-    let listed = listing::list(lister, &piece, n, &mut page);
+    let listed = listing::list(lister, &piece, n, page);
     let len = listed.len;
-    io::write_all(STDOUT_FILENO, &page[..len]);
+    let whole: &[u8] = page;
+    io::write_all(STDOUT_FILENO, &whole[..len]);
     listed.lister
 }
 
-fn show_all(lister: Lister, words: &[u16]) -> Lister {
+fn show_all(lister: Lister, words: &[u16], page: &mut [u8; listing::PAGE]) -> Lister {
     let mut state = lister;
     let mut i: usize = 0;
     while i < words.len() {
-        state = show(state, words[i], 2);
+        state = show(state, words[i], 2, page);
         i += 1;
     }
     state
@@ -99,10 +99,9 @@ fn main() {
     let mut page = [0u8; listing::PAGE];
     let opened = listing::open(&mut page);
     let len = opened.len;
-    let start = opened.lister;
     io::write_all(STDOUT_FILENO, &page[..len]);
-    let all = show_all(start, &WORDS);
-    let odd = show(all, 0x0800, 1);
+    let all = show_all(opened.lister, &WORDS, &mut page);
+    let odd = show(all, 0x0800, 1, &mut page);
     let last = listing::finish(odd, &mut page);
     io::write_all(STDOUT_FILENO, &page[..last]);
 }

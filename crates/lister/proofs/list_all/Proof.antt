@@ -6,10 +6,10 @@ use Rattle.lister.proofs.list_all.Statement.{statement}
 use Rattle.lister.proofs.list_all.Tie as tie
 
 abbrev Inv-loop : tie.InvT-loop
-Inv-loop now₀ turns₀ now turns = Unit {0}
+Inv-loop page₀ now₀ turns₀ page now turns = Unit {0}
 
 abbrev μ-loop : tie.MeasureT-loop
-μ-loop now₀ turns₀ now turns = turns
+μ-loop page₀ now₀ turns₀ page now turns = turns
 
 pub list-all-spec : {M : Type 1} → statement M
 list-all-spec =
@@ -18,8 +18,8 @@ list-all-spec =
     Inv-loop
     μ-loop
     (λ c. tt)
-    (λ c κs. tt)
     (λ c. search needs)
+    (λ c κs. tt)
     (λ c. omega arith)
     (λ c. omega arith)
     (λ c. tt)

@@ -1,5 +1,7 @@
 -- `listing::list` meets its contract: the first n bytes of the piece, or all of them; the page has room for the text of any.
 -- Assumes nothing.
+use Prim.Native.Nat.{min}
+use mathlib.Core.Path.{ap, sym, _∙_}
 use borrow.Author.Needs.{needs}
 use native.Mathlib.Omega.{arith}
 use denote.Ref.{now}
@@ -21,7 +23,7 @@ returns c =
     let e = c .run .ensures in
     let f = made (c .run .result) (e .0) (e .1) in
     let least = c .before .before .before .before .least in
-    let t = cut (a .n) (least .result) (now (a .piece)) (least .ensures) (c .before .before .before .whole .given .0) in
+    let t = cut (a .n) (least .result) (now (a .piece)) (least .ensures ∙ ap (min (a .n)) (sym (c .before .before .before .whole .given .0))) in
     (rw (← t) (f .0), rw (← t) (f .1), f .2)
 
 pub list-spec : {M : Type 1} → statement M

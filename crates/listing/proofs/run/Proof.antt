@@ -7,19 +7,20 @@ use borrow.Author.Needs.{needs}
 use denote.Ref.{now}
 use lib.ListN.{length, take}
 use lib.Seq.{take-length}
-use Rattle.listing.specs.Listing.{after, said}
-use Rattle.listing.specs.Page.{Puts}
-use Rattle.listing.proofs.Puts.{chain, put-nil}
-use Rattle.listing.proofs.Pieces.{after-more, said-more}
+use Rattle.listing.specs.Listing.{fed, said}
+use Rattle.lines.specs.Bounds.{PAIR}
+use Rattle.lines.specs.Page.{Puts}
+use Rattle.lines.proofs.Puts.{chain, put-nil}
+use Rattle.listing.proofs.Pieces.{fed-more, said-more}
 use Rattle.listing.proofs.run.Statement.{statement}
 use Rattle.listing.proofs.run.Tie as tie
 
 abbrev Inv-loop : tie.InvT-loop
 Inv-loop bytes page₀ state₀ len₀ i₀ page state len i =
     (i ≤ length bytes)
-    × (len ≤ 32 * i)
+    × (len ≤ PAIR * i)
     × (length page ≡ length page₀)
-    × (state ≡ after state₀ (take i bytes))
+    × (state ≡ fed state₀ (take i bytes))
     × Puts 0 (said state₀ (take i bytes)) page₀ len page
 
 abbrev μ-loop : tie.MeasureT-loop
@@ -36,8 +37,9 @@ loop-again c =
       omega arith,
       omega (arith, f .ensures .2, inv .1),
       f .kept .1 .1 .0 ∙ inv .2,
-      cc (f .ensures .0, inv .3, after-more (a .lister) (now (a .bytes)) i h),
-      rw (said-more (a .lister) (now (a .bytes)) i h) (chain (inv .4) (rw (inv .3) at (f .ensures .1)) (omega (arith, inv .4 .place, inv .1, l .before .before .before .pre))),
+      cc (f .ensures .0, inv .3, fed-more (a .lister) (now (a .bytes)) i h),
+      rw (said-more (a .lister) (now (a .bytes)) i h)
+          (chain (inv .4) (rw (inv .3) at (f .ensures .1)) (omega (arith, inv .4 .place, inv .1, l .before .before .before .pre))),
     )
 
 returns : tie.Need-returns Inv-loop μ-loop

@@ -8,10 +8,10 @@ use Rattle.replies.proofs.show_all.Statement.{statement}
 use Rattle.replies.proofs.show_all.Tie as tie
 
 abbrev Inv-loop : tie.InvT-loop
-Inv-loop words state₀ i₀ state i = Unit
+Inv-loop words page₀ state₀ i₀ page state i = Unit
 
 abbrev μ-loop : tie.MeasureT-loop
-μ-loop words state₀ i₀ state i = length words - i
+μ-loop words page₀ state₀ i₀ page state i = length words - i
 
 pub show-all-spec : {M : Type 1} → statement M
 show-all-spec =
