@@ -7,16 +7,39 @@ use contract.Lifetimes.{Lfts}
 use denote.Ref.{RefT, now}
 use Rattle.base.proofs.Single.{same}
 use Rattle.block.specs.declared.Refusal.{Refusal}
+use Rattle.block.specs.declared.Kind.{Kind}
 use Rattle.block.specs.declared.Layout.{Layout}
 use Rattle.block.specs.declared.Part.{Part}
+use Rattle.block.specs.declared.Listed.{Listed}
 use Rattle.block.specs.declared.Located.{Located}
 use Rattle.block.proofs.number.Reads as number
+use Rattle.block.proofs.length_of.Reads as length-of
+use Rattle.block.proofs.marker_of.Reads as marker-of
+use Rattle.block.proofs.row_of.Reads as row-of
+use Rattle.block.proofs.part_at.Reads as part-at
+use Rattle.block.proofs.place_of.Reads as place-of
 use Rattle.block.proofs.layout_of.Reads as layout-of
 use Rattle.block.proofs.locate.Reads as locate
-use Rattle.block.proofs.part_of.Reads as part-of
+use Rattle.block.proofs.slice_of.Reads as slice-of
 
 pub number-one : (f : Refusal) (r q : ℕ) → number.Post tt (f, tt) r (f, tt) → number.Post tt (f, tt) q (f, tt) → r ≡ q
 number-one f r q m n = same m n
+
+pub length-of-one : (k : Kind) (r q : ℕ) → length-of.Post tt (k, tt) r (k, tt) → length-of.Post tt (k, tt) q (k, tt) → r ≡ q
+length-of-one k r q m n = same m n
+
+pub marker-of-one : (k : Kind) (r q : ℕ) → marker-of.Post tt (k, tt) r (k, tt) → marker-of.Post tt (k, tt) q (k, tt) → r ≡ q
+marker-of-one k r q m n = same m n
+
+pub row-of-one : (p : Part) (r q : ℕ) → row-of.Post tt (p, tt) r (p, tt) → row-of.Post tt (p, tt) q (p, tt) → r ≡ q
+row-of-one p r q m n = same m n
+
+pub part-at-one : (i : ℕ) (r q : Listed) → part-at.Post tt (i, tt) r (i, tt) → part-at.Post tt (i, tt) q (i, tt) → r ≡ q
+part-at-one i r q m n = same m n
+
+pub place-of-one : (k : Kind) (d1 d2 : ℕ) (p : Part) (r q : Located) → place-of.Post tt (k, (d1, (d2, (p, tt)))) r (k, (d1, (d2, (p, tt))))
+    → place-of.Post tt (k, (d1, (d2, (p, tt)))) q (k, (d1, (d2, (p, tt)))) → r ≡ q
+place-of-one k d1 d2 p r q m n = same m n
 
 module _ (κs : Lfts 1) (b : RefT (List ℕ)) where
   pub layout-of-one : (r q : Layout) → layout-of.Post κs (b, tt) r (b, tt) → layout-of.Post κs (b, tt) q (b, tt) → r ≡ q
@@ -26,5 +49,5 @@ module _ (κs : Lfts 1) (b : RefT (List ℕ)) where
   locate-one p r q m n = same m n
 
   -- of a slice handed back the outcome is its bytes
-  pub part-of-one : (p : Part) (r q : RefT (List ℕ)) → part-of.Post κs (b, (p, tt)) r (b, (p, tt)) → part-of.Post κs (b, (p, tt)) q (b, (p, tt)) → now r ≡ now q
-  part-of-one p r q m n = same m n
+  pub slice-of-one : (p : Located) (r q : RefT (List ℕ)) → slice-of.Post κs (b, (p, tt)) r (b, (p, tt)) → slice-of.Post κs (b, (p, tt)) q (b, (p, tt)) → now r ≡ now q
+  slice-of-one p r q m n = same m n

@@ -1,40 +1,37 @@
--- Which bytes of a block are held by what (01, "Data blocks"; G 2.1): the parts, BM1's two inner markers, and its two spare bytes.
+-- Which bytes of a block are held by what (01, "Data blocks"; G 2.1): the parts, the inner markers, and the spare bytes.
 -- Assumes nothing.
 use mathlib.Core.Bool.{_&&_}
 use mathlib.Core.List.{List, [], _∷_, _++_}
 use Prim.Native.Nat.{ℕ, _+_}
 use lib.Dec.{leb, ltb}
 use Rattle.base.specs.Pick.{pick}
-use Rattle.block.specs.declared.Part.{Part}
-use Rattle.block.specs.Parts.{nmRow, bm1Row, parts}
+use Rattle.block.specs.declared.Kind.{Kind}
+use Rattle.block.specs.declared.Kind.the-variants.{Nm, Bm1}
+use Rattle.block.specs.Kinds.{innerOf}
+use Rattle.block.specs.Tables.{Row, rowsOf}
 
 -- a stretch of bytes: position and length
-abbrev pub Stretch : Type 0
-Stretch = ℕ × ℕ
+abbrev pub Bytes : Type 0
+Bytes = ℕ × ℕ
 
--- G: 212h 2. sync marker, 475h 3. sync marker; 009h and 155h spare
-abbrev pub innerMarkers : List Stretch
-innerMarkers = (0x212, 3) ∷ (0x475, 3) ∷ []
+-- G: 009h and 155h of BM1 are spare
+abbrev pub sparesOf : Kind → List Bytes
+sparesOf Nm = []
+sparesOf Bm1 = (0x009, 1) ∷ (0x155, 1) ∷ []
 
-abbrev pub spares : List Stretch
-spares = (0x009, 1) ∷ (0x155, 1) ∷ []
+abbrev pub ofRows : List Row → List Bytes
+ofRows [] = []
+ofRows (r ∷ rs) = (r .at, r .length) ∷ ofRows rs
 
-abbrev pub nmStretches : List Part → List Stretch
-nmStretches [] = []
-nmStretches (p ∷ ps) = (nmRow p .at, nmRow p .n) ∷ nmStretches ps
+abbrev pub ofMarkers : List (ℕ × ℕ × ℕ × ℕ) → List Bytes
+ofMarkers [] = []
+ofMarkers (m ∷ ms) = (m .0, 3) ∷ ofMarkers ms
 
-abbrev pub bm1Stretches : List Part → List Stretch
-bm1Stretches [] = []
-bm1Stretches (p ∷ ps) = (bm1Row p .at, bm1Row p .n) ∷ bm1Stretches ps
-
--- all that an NM block holds, and all that a BM1 block holds
-abbrev pub nmHeld : List Stretch
-nmHeld = nmStretches parts
-
-abbrev pub bm1Held : List Stretch
-bm1Held = bm1Stretches parts ++ (innerMarkers ++ spares)
+-- all that a block of a kind holds
+abbrev pub heldBy : Kind → List Bytes
+heldBy k = ofRows (rowsOf k) ++ (ofMarkers (innerOf k) ++ sparesOf k)
 
 -- in how many of the stretches byte k lies
-abbrev pub holders : ℕ → List Stretch → ℕ
+abbrev pub holders : ℕ → List Bytes → ℕ
 holders k [] = 0
 holders k (s ∷ ss) = pick (leb (s .0) k && ltb k (s .0 + s .1)) 1 0 + holders k ss

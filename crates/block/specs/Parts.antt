@@ -1,100 +1,20 @@
--- The parts of a data block (01, "Data blocks"; G 2.1): where they stand, and which of them test data hide.
+-- The parts of a data block (01, "Data blocks"): where they stand, and which of them test data hide.
 -- Assumes nothing.
-use mathlib.Core.Bool.{Bool, false, not, _&&_, _||_}
+use mathlib.Core.Bool.{Bool, not, _&&_, _||_}
 use mathlib.Core.List.{List, [], _∷_, _++_}
-use Prim.Native.Nat.{ℕ}
-use lib.Dec.{eqb}
-use lib.ListN.{take, drop}
+use Prim.Native.Nat.{ℕ, _+_}
+use lib.Dec.{leb}
+use lib.ListN.{length, take, drop}
 use Rattle.base.specs.Pick.{pick}
 use Rattle.block.specs.declared.Refusal.the-variants.{Beyond, Hidden}
-use Rattle.block.specs.declared.Layout.{Layout}
-use Rattle.block.specs.declared.Layout.the-variants.{Nm, Bm1, Bad}
+use Rattle.block.specs.declared.Kind.{Kind}
 use Rattle.block.specs.declared.Part.{Part}
-use Rattle.block.specs.declared.Part.the-variants.{Marker, Index, Descriptor1, Calibration, MSigns, Sgl0, DirectEvents, HSpct, ISpct, Sgl1, Sgl2, Sgl3, IPad, I3dd, Mtrx, Descriptor2, EPad, E3dd, M}
-use Rattle.block.specs.declared.Row.{Row}
+use Rattle.block.specs.declared.Part.the-variants.{Marker, Index, Descriptor1, Descriptor2, EPad, E3dd, M}
 use Rattle.block.specs.declared.Located.{Located}
 use Rattle.block.specs.declared.Located.the-variants.{At, Refused}
-use Rattle.block.specs.Layout.{bit, layoutOf}
-
--- a row of a position table: position and length
-abbrev row : ℕ → ℕ → Row
-row a n = record { at = a; n = n }
-
--- G's position table of NM
-abbrev pub nmRow : Part → Row
-nmRow Marker = row 0x000 3
-nmRow Index = row 0x003 1
-nmRow Descriptor1 = row 0x004 1
-nmRow Calibration = row 0x005 2
-nmRow MSigns = row 0x007 2
-nmRow Sgl0 = row 0x009 1
-nmRow DirectEvents = row 0x00A 60
-nmRow HSpct = row 0x046 8
-nmRow ISpct = row 0x04E 4
-nmRow Sgl1 = row 0x052 1
-nmRow Sgl2 = row 0x053 3
-nmRow Sgl3 = row 0x056 1
-nmRow IPad = row 0x057 96
-nmRow I3dd = row 0x0B7 144
-nmRow Mtrx = row 0x147 8
-nmRow Descriptor2 = row 0x14F 1
-nmRow EPad = row 0x150 96
-nmRow E3dd = row 0x1B0 72
-nmRow M = row 0x1F8 8
-
--- G's position table of BM1 (a length of 0: not in BM1)
-abbrev pub bm1Row : Part → Row
-bm1Row Marker = row 0x000 3
-bm1Row Index = row 0x003 1
-bm1Row Descriptor1 = row 0x004 1
-bm1Row Calibration = row 0x005 2
-bm1Row MSigns = row 0x007 2
-bm1Row Sgl0 = row 0 0
-bm1Row DirectEvents = row 0x00A 318
-bm1Row HSpct = row 0x148 8
-bm1Row ISpct = row 0x150 4
-bm1Row Sgl1 = row 0x156 80
-bm1Row Sgl2 = row 0x1A6 9
-bm1Row Sgl3 = row 0x1AF 3
-bm1Row IPad = row 0x1B2 96
-bm1Row I3dd = row 0x215 576
-bm1Row Mtrx = row 0x455 32
-bm1Row Descriptor2 = row 0x154 1
-bm1Row EPad = row 0 0
-bm1Row E3dd = row 0x478 1152
-bm1Row M = row 0x8F8 8
-
--- the parts in the order of G's NM table
-abbrev pub parts : List Part
-parts =
-    Marker ∷ Index ∷ Descriptor1 ∷ Calibration ∷ MSigns ∷ Sgl0 ∷ DirectEvents ∷ HSpct ∷ ISpct ∷ Sgl1
-    ∷ Sgl2 ∷ Sgl3 ∷ IPad ∷ I3dd ∷ Mtrx ∷ Descriptor2 ∷ EPad ∷ E3dd ∷ M ∷ []
-
-abbrev pub rankOf : Part → ℕ
-rankOf Marker = 0
-rankOf Index = 1
-rankOf Descriptor1 = 2
-rankOf Calibration = 3
-rankOf MSigns = 4
-rankOf Sgl0 = 5
-rankOf DirectEvents = 6
-rankOf HSpct = 7
-rankOf ISpct = 8
-rankOf Sgl1 = 9
-rankOf Sgl2 = 10
-rankOf Sgl3 = 11
-rankOf IPad = 12
-rankOf I3dd = 13
-rankOf Mtrx = 14
-rankOf Descriptor2 = 15
-rankOf EPad = 16
-rankOf E3dd = 17
-rankOf M = 18
-
--- a part is one of those listed
-abbrev pub among : Part → List Part → Bool
-among p [] = false
-among p (q ∷ qs) = eqb (rankOf p) (rankOf q) || among p qs
+use Rattle.block.specs.Refusals.{Tests, unless}
+use Rattle.block.specs.Tables.{among, has, rowIn}
+use Rattle.block.specs.Layout.{bit, kindOf, first, second, blockTests}
 
 abbrev pub opening : List Part
 opening = Marker ∷ Index ∷ Descriptor1 ∷ []
@@ -111,21 +31,20 @@ hidden p d1 d2 =
     || (not (among p (opening ++ Descriptor2 ∷ electrons)) && (bit d1 0 || bit d1 3))
     || (among p electrons && (bit d1 1 || bit d2 7))
 
--- 22 not in this layout, 23 hidden, or its place and its length
-abbrev pub found : Row → Bool → Located
-found r h = pick (eqb (r .n) 0) (Refused Beyond) (pick h (Refused Hidden) (At (r .at) (r .n)))
+-- 22 not in this layout, 23 hidden; else its place and its length
+abbrev pub placeTests : Kind → ℕ → ℕ → Part → Tests
+placeTests k d1 d2 p = (not (has k p), Beyond) ∷ (hidden p d1 d2, Hidden) ∷ []
 
-abbrev pub inLayout : Layout → Part → Located
-inLayout (Bad r) p = Refused r
-inLayout (Nm d1 d2) p = found (nmRow p) (hidden p d1 d2)
-inLayout (Bm1 d1 d2) p = found (bm1Row p) (hidden p d1 d2)
+unfoldable pub placeOf : Kind → ℕ → ℕ → Part → Located
+placeOf k d1 d2 p = unless Refused (placeTests k d1 d2 p) (At (rowIn k p .at) (rowIn k p .length))
 
+-- in a block, which is asked first
 unfoldable pub locateOf : List ℕ → Part → Located
-locateOf b p = inLayout (layoutOf b) p
+locateOf b p = unless Refused (blockTests b) (placeOf (kindOf b) (first b) (second b (kindOf b)) p)
 
--- the bytes of a part, and none where it is refused
+-- the bytes at a place: none where it is a refusal, or goes past the end
 abbrev pub bytesOf : List ℕ → Located → List ℕ
-bytesOf b (At at n) = take n (drop at b)
+bytesOf b (At at n) = pick (leb (at + n) (length b)) (take n (drop at b)) []
 bytesOf b (Refused r) = []
 
 unfoldable pub partOf : List ℕ → Part → List ℕ

@@ -3,12 +3,14 @@
 ghost use mathlib.Core.Path.{_≡_};
 ghost use mathlib.Core.Bool.{_||_};
 ghost use Prim.Native.Nat.{_+_, _/_, _%_, _≤_, _<_};
-ghost use lib.Dec.{eqb};
+ghost use lib.Dec.{eqb, leb};
 ghost use lib.ListN.{length};
 ghost use Rattle.block.specs.Refusals.{numberOf};
-ghost use Rattle.block.specs.Layout.{marker, layoutOf};
-ghost use Rattle.block.specs.Parts.{nmRow, bm1Row, found, locateOf, partOf};
-ghost use Rattle.block.specs.Steps.{layoutBy, nmOf, bm1Of, groupOf, hides};
+ghost use Rattle.block.specs.Kinds.{lengthOf, markerOf, secondAt};
+ghost use Rattle.block.specs.Tables.{rowOf, listedAt};
+ghost use Rattle.block.specs.Layout.{marker, inner, layoutOf};
+ghost use Rattle.block.specs.Parts.{placeOf, locateOf, bytesOf};
+ghost use Rattle.block.specs.Steps.{layoutBy, asKind, columnsOf, standsIn, hides, foundAt};
 
 // Why nothing is handed back: 19 to 24. The last is of the IFFT block alone.
 pub enum Refusal {
@@ -20,14 +22,19 @@ pub enum Refusal {
     NotIfft,
 }
 
+// The kinds of blocks.
+pub enum Kind {
+    Nm,
+    Bm1,
+}
+
 // What a block is, with its two content descriptors. The second counts as 0 where it is not looked at.
 pub enum Layout {
-    Nm(u8, u8),
-    Bm1(u8, u8),
+    Is(Kind, u8, u8),
     Bad(Refusal),
 }
 
-// The parts of G's two position tables, in the order of NM's.
+// The parts of G's position tables, in the order of NM's.
 pub enum Part {
     Marker,
     Index,
@@ -50,6 +57,15 @@ pub enum Part {
     M,
 }
 
+// How many parts there are.
+pub const PARTS: usize = 19;
+
+// The part of a number, if there are so many.
+pub enum Listed {
+    Is(Part),
+    Nothing,
+}
+
 // A part's first byte and its length, or why it is refused.
 pub enum Located {
     At(usize, usize),
@@ -64,31 +80,29 @@ enum Group {
     Electrons,
 }
 
-// Where a part stands in one layout: its first byte and its length. A length of 0: not in that layout.
-struct Row {
-    at: usize,
-    n: usize,
+// What is known of a part: its number, which test data hide it, its first byte and its length in NM, and the same in BM1. A length of 0: not in that kind.
+struct Columns(usize, Group, usize, usize, usize, usize);
+
+// Where a part stands in one kind: its first byte and its length.
+struct Stretch(usize, usize);
+
+// The same as `Layout`, with each thing in one place whatever the case, so that the compiler can keep it out of memory. Of a block that is refused
+// kind and descriptors say nothing, of a good one the refusal does not.
+struct Seen {
+    good: bool,
+    kind: Kind,
+    d1: u8,
+    d2: u8,
+    why: Refusal,
 }
 
-// What a block was found to be, descriptors aside.
-enum Sort {
-    Nm,
-    Bm1,
-    NoMarker,
-    WrongLength,
-    InnerMarker,
-}
+// The third byte of a kind's marker, after 14 6F.
+const NM_MARKER: u8 = 0x2E;
 
-// The same as `Layout`, with the descriptors in one place whatever the case, so that the compiler can keep them out of memory.
-// Where the block is refused they say nothing.
-struct Seen(Sort, u8, u8);
+const BM1_MARKER: u8 = 0x3D;
 
-// Where the two content descriptors stand.
+// Where the first content descriptor stands.
 const D1: usize = 0x004;
-
-const NM_D2: usize = 0x14F;
-
-const BM1_D2: usize = 0x154;
 
 // The number that 01 gives a refusal.
 pub fn number(refusal: Refusal) -> u8
@@ -104,102 +118,106 @@ pub fn number(refusal: Refusal) -> u8
     }
 }
 
-// G's position table of NM.
-fn nm_row(part: Part) -> Row
-    ensures { λ r. ⌜ r ≡ nmRow part ⌝ }
+// How many bytes a block of a kind has.
+pub fn length_of(kind: Kind) -> usize
+    ensures { λ r. ⌜ r ≡ lengthOf kind ⌝ }
 {
-    match part {
-        Part::Marker => Row { at: 0x000, n: 3 },
-        Part::Index => Row { at: 0x003, n: 1 },
-        Part::Descriptor1 => Row { at: D1, n: 1 },
-        Part::Calibration => Row { at: 0x005, n: 2 },
-        Part::MSigns => Row { at: 0x007, n: 2 },
-        Part::Sgl0 => Row { at: 0x009, n: 1 },
-        Part::DirectEvents => Row { at: 0x00A, n: 60 },
-        Part::HSpct => Row { at: 0x046, n: 8 },
-        Part::ISpct => Row { at: 0x04E, n: 4 },
-        Part::Sgl1 => Row { at: 0x052, n: 1 },
-        Part::Sgl2 => Row { at: 0x053, n: 3 },
-        Part::Sgl3 => Row { at: 0x056, n: 1 },
-        Part::IPad => Row { at: 0x057, n: 96 },
-        Part::I3dd => Row { at: 0x0B7, n: 144 },
-        Part::Mtrx => Row { at: 0x147, n: 8 },
-        Part::Descriptor2 => Row { at: NM_D2, n: 1 },
-        Part::EPad => Row { at: 0x150, n: 96 },
-        Part::E3dd => Row { at: 0x1B0, n: 72 },
-        Part::M => Row { at: 0x1F8, n: 8 },
+    match kind {
+        Kind::Nm => 512,
+        Kind::Bm1 => 2304,
     }
 }
 
-// G's position table of BM1.
-fn bm1_row(part: Part) -> Row
-    ensures { λ r. ⌜ r ≡ bm1Row part ⌝ }
+// The third byte of a kind's marker.
+pub fn marker_of(kind: Kind) -> u8
+    ensures { λ r. ⌜ r ≡ markerOf kind ⌝ }
 {
-    match part {
-        Part::Marker => Row { at: 0x000, n: 3 },
-        Part::Index => Row { at: 0x003, n: 1 },
-        Part::Descriptor1 => Row { at: D1, n: 1 },
-        Part::Calibration => Row { at: 0x005, n: 2 },
-        Part::MSigns => Row { at: 0x007, n: 2 },
-        Part::Sgl0 => Row { at: 0, n: 0 },
-        Part::DirectEvents => Row { at: 0x00A, n: 318 },
-        Part::HSpct => Row { at: 0x148, n: 8 },
-        Part::ISpct => Row { at: 0x150, n: 4 },
-        Part::Sgl1 => Row { at: 0x156, n: 80 },
-        Part::Sgl2 => Row { at: 0x1A6, n: 9 },
-        Part::Sgl3 => Row { at: 0x1AF, n: 3 },
-        Part::IPad => Row { at: 0x1B2, n: 96 },
-        Part::I3dd => Row { at: 0x215, n: 576 },
-        Part::Mtrx => Row { at: 0x455, n: 32 },
-        Part::Descriptor2 => Row { at: BM1_D2, n: 1 },
-        Part::EPad => Row { at: 0, n: 0 },
-        Part::E3dd => Row { at: 0x478, n: 1152 },
-        Part::M => Row { at: 0x8F8, n: 8 },
+    match kind {
+        Kind::Nm => NM_MARKER,
+        Kind::Bm1 => BM1_MARKER,
     }
 }
 
-// Which test data hide a part.
-fn group_of(part: Part) -> Group
-    ensures { λ r. ⌜ r ≡ groupOf part ⌝ }
+// Where the second content descriptor stands.
+fn second_at(kind: Kind) -> usize
+    ensures { λ r. ⌜ r ≡ secondAt kind ⌝ }
 {
-    match part {
-        Part::Marker => Group::Open,
-        Part::Index => Group::Open,
-        Part::Descriptor1 => Group::Open,
-        Part::Calibration => Group::Ions,
-        Part::MSigns => Group::Ions,
-        Part::Sgl0 => Group::Ions,
-        Part::DirectEvents => Group::Ions,
-        Part::HSpct => Group::Ions,
-        Part::ISpct => Group::Ions,
-        Part::Sgl1 => Group::Ions,
-        Part::Sgl2 => Group::Ions,
-        Part::Sgl3 => Group::Ions,
-        Part::IPad => Group::Ions,
-        Part::I3dd => Group::Ions,
-        Part::Mtrx => Group::Ions,
-        Part::Descriptor2 => Group::Whole,
-        Part::EPad => Group::Electrons,
-        Part::E3dd => Group::Electrons,
-        Part::M => Group::Electrons,
+    match kind {
+        Kind::Nm => 0x14F,
+        Kind::Bm1 => 0x154,
     }
 }
 
-// Whether the three bytes at a place are x, y and z.
-fn is_marker(b: &[u8], at: usize, x: u8, y: u8, z: u8) -> bool
-    requires { ⌜ at + 3 ≤ length (now b) ⌝ }
-    ensures { λ r. ⌜ r ≡ marker (now (b .entry)) at x y z ⌝ }
+// G's position tables side by side.
+fn columns_of(part: Part) -> Columns
+    ensures { λ r. ⌜ r ≡ columnsOf part ⌝ }
 {
-    if b[at] != x {
-        return false;
+    match part {
+        Part::Marker => Columns(0, Group::Open, 0x000, 3, 0x000, 3),
+        Part::Index => Columns(1, Group::Open, 0x003, 1, 0x003, 1),
+        Part::Descriptor1 => Columns(2, Group::Open, 0x004, 1, 0x004, 1),
+        Part::Calibration => Columns(3, Group::Ions, 0x005, 2, 0x005, 2),
+        Part::MSigns => Columns(4, Group::Ions, 0x007, 2, 0x007, 2),
+        Part::Sgl0 => Columns(5, Group::Ions, 0x009, 1, 0, 0),
+        Part::DirectEvents => Columns(6, Group::Ions, 0x00A, 60, 0x00A, 318),
+        Part::HSpct => Columns(7, Group::Ions, 0x046, 8, 0x148, 8),
+        Part::ISpct => Columns(8, Group::Ions, 0x04E, 4, 0x150, 4),
+        Part::Sgl1 => Columns(9, Group::Ions, 0x052, 1, 0x156, 80),
+        Part::Sgl2 => Columns(10, Group::Ions, 0x053, 3, 0x1A6, 9),
+        Part::Sgl3 => Columns(11, Group::Ions, 0x056, 1, 0x1AF, 3),
+        Part::IPad => Columns(12, Group::Ions, 0x057, 96, 0x1B2, 96),
+        Part::I3dd => Columns(13, Group::Ions, 0x0B7, 144, 0x215, 576),
+        Part::Mtrx => Columns(14, Group::Ions, 0x147, 8, 0x455, 32),
+        Part::Descriptor2 => Columns(15, Group::Whole, 0x14F, 1, 0x154, 1),
+        Part::EPad => Columns(16, Group::Electrons, 0x150, 96, 0, 0),
+        Part::E3dd => Columns(17, Group::Electrons, 0x1B0, 72, 0x478, 1152),
+        Part::M => Columns(18, Group::Electrons, 0x1F8, 8, 0x8F8, 8),
     }
-    if b[at + 1] != y {
-        return false;
+}
+
+// The number of a part, from 0.
+pub fn row_of(part: Part) -> usize
+    ensures { λ r. ⌜ r ≡ rowOf part ⌝ }
+{
+    columns_of(part).0
+}
+
+// The part of a number.
+pub fn part_at(n: usize) -> Listed
+    ensures { λ r. ⌜ r ≡ listedAt n ⌝ }
+{
+    match n {
+        0 => Listed::Is(Part::Marker),
+        1 => Listed::Is(Part::Index),
+        2 => Listed::Is(Part::Descriptor1),
+        3 => Listed::Is(Part::Calibration),
+        4 => Listed::Is(Part::MSigns),
+        5 => Listed::Is(Part::Sgl0),
+        6 => Listed::Is(Part::DirectEvents),
+        7 => Listed::Is(Part::HSpct),
+        8 => Listed::Is(Part::ISpct),
+        9 => Listed::Is(Part::Sgl1),
+        10 => Listed::Is(Part::Sgl2),
+        11 => Listed::Is(Part::Sgl3),
+        12 => Listed::Is(Part::IPad),
+        13 => Listed::Is(Part::I3dd),
+        14 => Listed::Is(Part::Mtrx),
+        15 => Listed::Is(Part::Descriptor2),
+        16 => Listed::Is(Part::EPad),
+        17 => Listed::Is(Part::E3dd),
+        18 => Listed::Is(Part::M),
+        _ => Listed::Nothing,
     }
-    if b[at + 2] != z {
-        return false;
+}
+
+// Where the part of these columns stands in a kind.
+fn stands_in(columns: Columns, kind: Kind) -> Stretch
+    ensures { λ r. ⌜ r ≡ standsIn columns kind ⌝ }
+{
+    match kind {
+        Kind::Nm => Stretch(columns.2, columns.3),
+        Kind::Bm1 => Stretch(columns.4, columns.5),
     }
-    true
 }
 
 // Whether the bit of this weight is set.
@@ -210,78 +228,10 @@ fn is_set(d: u8, weight: u8) -> bool
     d / weight % 2 == 1
 }
 
-// What follows an NM marker.
-fn nm_seen(b: &[u8]) -> Seen
-    ensures { λ r. ⌜ layoutBy r ≡ nmOf (now (b .entry)) ⌝ }
-{
-    if b.len() != 512 {
-        return Seen(Sort::WrongLength, 0, 0);
-    }
-    if is_set(b[D1], 4) {
-        return Seen(Sort::Nm, b[D1], 0);
-    }
-    Seen(Sort::Nm, b[D1], b[NM_D2])
-}
-
-// What follows a BM1 marker. A memory dump has only the first marker, so the inner ones are not looked at there.
-fn bm1_seen(b: &[u8]) -> Seen
-    ensures { λ r. ⌜ layoutBy r ≡ bm1Of (now (b .entry)) ⌝ }
-{
-    if b.len() != 2304 {
-        return Seen(Sort::WrongLength, 0, 0);
-    }
-    if is_set(b[D1], 4) {
-        return Seen(Sort::Bm1, b[D1], 0);
-    }
-    if is_marker(b, 0x212, 0x4C, 0x43, 0xE2) {
-        if is_marker(b, 0x475, 0x54, 0xE1, 0xE1) {
-            return Seen(Sort::Bm1, b[D1], b[BM1_D2]);
-        }
-    }
-    Seen(Sort::InnerMarker, 0, 0)
-}
-
-// What a block is, or the first of 20 (under 3 bytes), 19, 20, 21 that it is refused with.
-fn sort_of(b: &[u8]) -> Seen
-    ensures { λ r. ⌜ layoutBy r ≡ layoutOf (now (b .entry)) ⌝ }
-{
-    if b.len() < 3 {
-        return Seen(Sort::WrongLength, 0, 0);
-    }
-    if is_marker(b, 0x000, 0x14, 0x6F, 0x2E) {
-        return nm_seen(b);
-    }
-    if is_marker(b, 0x000, 0x14, 0x6F, 0x3D) {
-        return bm1_seen(b);
-    }
-    Seen(Sort::NoMarker, 0, 0)
-}
-
-// What a block is, with its two content descriptors; or the refusal.
-pub fn layout_of(b: &[u8]) -> Layout
-    ensures { λ r. ⌜ r ≡ layoutOf (now (b .entry)) ⌝ }
-{
-    let s = sort_of(b);
-    let sort = s.0;
-    match sort {
-        Sort::Nm => Layout::Nm(s.1, s.2),
-        Sort::Bm1 => Layout::Bm1(s.1, s.2),
-        Sort::NoMarker => Layout::Bad(Refusal::NoMarker),
-        Sort::WrongLength => Layout::Bad(Refusal::WrongLength),
-        Sort::InnerMarker => Layout::Bad(Refusal::InnerMarker),
-    }
-}
-
 fn any(x: bool, y: bool, z: bool) -> bool
     ensures { λ r. ⌜ r ≡ x || (y || z) ⌝ }
 {
-    if x {
-        return true;
-    }
-    if y {
-        return true;
-    }
-    z
+    x || (y || z)
 }
 
 // Whether test data hide this group. Bits together hide what each of them hides.
@@ -296,46 +246,149 @@ fn is_hidden(group: Group, d1: u8, d2: u8) -> bool
     }
 }
 
-// 22 before 23: a part that a layout does not have is never called hidden.
-fn found_at(row: Row, group: Group, d1: u8, d2: u8) -> Located
-    ensures { λ r. ⌜ r ≡ found row (hides group d1 d2) ⌝ }
+// 22 before 23: a part that a kind does not have is never called hidden.
+fn found_at(place: Stretch, hidden: bool) -> Located
+    ensures { λ r. ⌜ r ≡ foundAt place hidden ⌝ }
 {
-    let absent = row.n == 0;
-    let hidden = is_hidden(group, d1, d2);
-    if absent {
+    if place.1 == 0 {
         return Located::Refused(Refusal::Beyond);
     }
     if hidden {
         return Located::Refused(Refusal::Hidden);
     }
-    Located::At(row.at, row.n)
+    Located::At(place.0, place.1)
 }
 
-// Where a part stands: its first byte and its length; or the refusal. Row and group are asked for in the arm of the layout alone, which spares the
-// compiler a second choice by the part.
-pub fn locate(b: &[u8], part: Part) -> Located
-    ensures { λ r. ⌜ r ≡ locateOf (now (b .entry)) part ⌝ }
+// Where a part stands in a block of this kind with these descriptors: its first byte and its length; or 22, or 23.
+pub fn place_of(kind: Kind, d1: u8, d2: u8, part: Part) -> Located
+    ensures { λ r. ⌜ r ≡ placeOf kind d1 d2 part ⌝ }
 {
-    let s = sort_of(b);
-    let sort = s.0;
-    match sort {
-        Sort::Nm => found_at(nm_row(part), group_of(part), s.1, s.2),
-        Sort::Bm1 => found_at(bm1_row(part), group_of(part), s.1, s.2),
-        Sort::NoMarker => Located::Refused(Refusal::NoMarker),
-        Sort::WrongLength => Located::Refused(Refusal::WrongLength),
-        Sort::InnerMarker => Located::Refused(Refusal::InnerMarker),
+    let columns = columns_of(part);
+    let group = columns.1;
+    found_at(stands_in(columns, kind), is_hidden(group, d1, d2))
+}
+
+// Whether the three bytes at a place are x, y and z.
+fn is_marker(b: &[u8], at: usize, x: u8, y: u8, z: u8) -> bool
+    requires { ⌜ at + 3 ≤ length (now b) ⌝ }
+    ensures { λ r. ⌜ r ≡ marker (now (b .entry)) at x y z ⌝ }
+{
+    b[at] == x && (b[at + 1] == y && b[at + 2] == z)
+}
+
+// Whether the inner markers of a kind stand, if it has any.
+fn is_inner(b: &[u8], kind: Kind) -> bool
+    requires { ⌜ length (now b) ≡ lengthOf kind ⌝ }
+    ensures { λ r. ⌜ r ≡ inner (now (b .entry)) kind ⌝ }
+{
+    match kind {
+        Kind::Nm => true,
+        Kind::Bm1 => is_marker(b, 0x212, 0x4C, 0x43, 0xE2) && is_marker(b, 0x475, 0x54, 0xE1, 0xE1),
     }
 }
 
-// A part of the caller's slice; empty where `locate` refuses, which has the number.
-pub fn part_of(b: &[u8], part: Part) -> &[u8]
-    ensures { λ r. ⌜ now r ≡ partOf (now (b .entry)) part ⌝ }
+fn bad(why: Refusal) -> Seen
+    ensures { λ r. ⌜ layoutBy r ≡ Layout.Bad why ⌝ }
 {
-    let place = locate(b, part);
+    Seen {
+        good: false,
+        kind: Kind::Nm,
+        d1: 0,
+        d2: 0,
+        why,
+    }
+}
+
+fn good(kind: Kind, d1: u8, d2: u8) -> Seen
+    ensures { λ r. ⌜ layoutBy r ≡ Layout.Is kind d1 d2 ⌝ }
+{
+    Seen {
+        good: true,
+        kind,
+        d1,
+        d2,
+        why: Refusal::NoMarker,
+    }
+}
+
+// What follows a kind's marker. A memory dump has only the first marker, so neither descriptor 2 nor the inner ones are looked at there.
+fn seen_as(b: &[u8], kind: Kind) -> Seen
+    ensures { λ r. ⌜ layoutBy r ≡ asKind (now (b .entry)) kind ⌝ }
+{
+    if b.len() != length_of(kind) {
+        return bad(Refusal::WrongLength);
+    }
+    if is_set(b[D1], 4) {
+        return good(kind, b[D1], 0);
+    }
+    if is_inner(b, kind) {
+        return good(kind, b[D1], b[second_at(kind)]);
+    }
+    bad(Refusal::InnerMarker)
+}
+
+// What a block is, or the first of 20 (under 3 bytes), 19, 20, 21 that it is refused with.
+fn seen_in(b: &[u8]) -> Seen
+    ensures { λ r. ⌜ layoutBy r ≡ layoutOf (now (b .entry)) ⌝ }
+{
+    if b.len() < 3 {
+        return bad(Refusal::WrongLength);
+    }
+    if b[0] != 0x14 || b[1] != 0x6F {
+        return bad(Refusal::NoMarker);
+    }
+    let third = b[2];
+    match third {
+        NM_MARKER => seen_as(b, Kind::Nm),
+        BM1_MARKER => seen_as(b, Kind::Bm1),
+        _ => bad(Refusal::NoMarker),
+    }
+}
+
+// What a block is, with its two content descriptors; or the refusal.
+pub fn layout_of(b: &[u8]) -> Layout
+    ensures { λ r. ⌜ r ≡ layoutOf (now (b .entry)) ⌝ }
+{
+    let s = seen_in(b);
+    let kind = s.kind;
+    let why = s.why;
+    if s.good {
+        return Layout::Is(kind, s.d1, s.d2);
+    }
+    Layout::Bad(why)
+}
+
+// Where a part stands: its first byte and its length; or the refusal.
+pub fn locate(b: &[u8], part: Part) -> Located
+    ensures { λ r. ⌜ r ≡ locateOf (now (b .entry)) part ⌝ }
+{
+    let s = seen_in(b);
+    let kind = s.kind;
+    let why = s.why;
+    if s.good {
+        return place_of(kind, s.d1, s.d2, part);
+    }
+    Located::Refused(why)
+}
+
+// Whether so many bytes from a place on are within a length.
+fn is_within(len: usize, at: usize, n: usize) -> bool
+    ensures { λ r. ⌜ r ≡ leb (at + n) len ⌝ }
+{
+    at <= len && n <= len - at
+}
+
+// The bytes of the caller's slice that stand at a place; none where it is a refusal, or the slice ends before it. Nothing is judged.
+pub fn slice_of(b: &[u8], place: Located) -> &[u8]
+    ensures { λ r. ⌜ now r ≡ bytesOf (now (b .entry)) place ⌝ }
+{
     match place {
         Located::At(at, n) => {
-            let end = at + n;
-            &b[at..end]
+            if is_within(b.len(), at, n) {
+                let end = at + n;
+                return &b[at..end];
+            }
+            &b[..0]
         }
         Located::Refused(_) => &b[..0],
     }

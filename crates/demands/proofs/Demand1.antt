@@ -14,7 +14,7 @@ use Rattle.rig.specs.declared.Rig.{Rig}
 use Rattle.sending.specs.declared.Built.{Built}
 use Rattle.sending.specs.Sending.{heldOf, nextLatch, sent, builtOf}
 use Rattle.laws.proofs.Replies.{reply-laws}
-use Rattle.block.proofs.Order.{order}
+use Rattle.block.proofs.Order.{order, place-order}
 use Rattle.block.proofs.Laws.{part-length, part-none}
 use Rattle.event.proofs.Order.{direct-order, event-order, item-order}
 use Rattle.demands.specs.Outfit.{proved}
@@ -38,6 +38,7 @@ demand-1 =
       room18 = λ r b at h. (no-room r b at h, short (heldOf r) (r .sending .next) (nextLatch r) at b h .1);
       room = λ r b at h. (with-room r b at h, room (heldOf r) (r .sending .next) (nextLatch r) at b h .1);
       part = order;
+      place = place-order;
       event = direct-order;
       ifftEvent = event-order;
       ifftItem = item-order;

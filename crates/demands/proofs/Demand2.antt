@@ -18,7 +18,7 @@ use Rattle.laws.specs.Runs.{Happening, ours, reached}
 use Rattle.laws.proofs.Rows.{row-laws}
 use Rattle.laws.proofs.Blocks.{block-laws}
 use Rattle.laws.proofs.Runs.{run-laws}
-use Rattle.block.proofs.Cover.{nm-cover, bm1-cover}
+use Rattle.block.proofs.Cover.{cover}
 use Rattle.block.proofs.Unread.{unread-alike}
 use Rattle.event.specs.Ifft.{itemAt}
 use Rattle.event.proofs.Directions.{reader-inverts, gives-back}
@@ -54,8 +54,7 @@ demand-2 =
       held = held-table;
       settles = settles;
       desk = slot-laws;
-      nm = nm-cover;
-      bm1 = bm1-cover;
+      cover = cover;
       dump = unread-alike;
       event = refl;
       item = word-8004;

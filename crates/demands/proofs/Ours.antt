@@ -1,5 +1,15 @@
 -- What we call ours is what our functions do: each contract says so.
 -- Assumes nothing.
+use mathlib.Core.Path.{_≡_, _∙_, ap}
+use mathlib.Core.List.{List}
+use Prim.Native.Nat.{ℕ}
+use contract.Lifetimes.{Lfts}
+use denote.Ref.{RefT, now}
+use Rattle.block.specs.declared.Part.{Part}
+use Rattle.block.specs.declared.Located.{Located}
+use Rattle.block.specs.Parts.{bytesOf, partOf}
+use Rattle.block.proofs.locate.Reads as locate-fn
+use Rattle.block.proofs.slice_of.Reads as slice-fn
 use Rattle.demands.specs.Ours.{OurOutfit, OurBlocks}
 
 pub our-outfit : OurOutfit
@@ -27,11 +37,17 @@ our-outfit =
       asks-look = λ d item. tt;
     }
 
+part-sliced : (κs : Lfts 1) (b : RefT (List ℕ)) (p : Part) (l : Located) (x : RefT (List ℕ)) → locate-fn.Post κs (b, (p, tt)) l (b, (p, tt))
+    → slice-fn.Post κs (b, (l, tt)) x (b, (l, tt)) → now x ≡ partOf (now b) p
+unfolding partOf
+part-sliced κs b p l x m n = n ∙ ap (bytesOf (now b)) m
+
 pub our-blocks : OurBlocks
 our-blocks =
     record {
       locate = λ κs b p x m. m;
-      part = λ κs b p x m. m;
+      place = λ k d1 d2 p x m. m;
+      part = part-sliced;
       event = λ κs b n x m. m;
       ifftEvent = λ κs b n x m. m;
       ifftItem = λ κs b n x m. m;
@@ -41,7 +57,8 @@ our-blocks =
       frameNumber = λ r n m. m;
       blockNumber = λ r n m. m;
       asks-locate = λ κs b p. tt;
-      asks-part = λ κs b p. tt;
+      asks-place = λ k d1 d2 p. tt;
+      asks-slice = λ κs b l. tt;
       asks-event = λ κs b n. tt;
       asks-ifftEvent = λ κs b n. tt;
       asks-ifftItem = λ κs b n. tt;

@@ -21,10 +21,13 @@ use Rattle.sending.specs.Sending.{heldOf}
 use Rattle.laws.specs.Rows.{RowLaws}
 use Rattle.laws.specs.Blocks.{BlockLaws}
 use Rattle.laws.specs.Runs.{Happening, reached, RunLaws}
+use Rattle.block.specs.declared.Kind.{Kind}
 use Rattle.block.specs.declared.Part.{Part}
-use Rattle.block.specs.Layout.{dumped, unread}
+use Rattle.block.specs.Kinds.{lengthOf}
+use Rattle.block.specs.Layout.{dumped}
 use Rattle.block.specs.Parts.{locateOf, partOf}
-use Rattle.block.specs.Cover.{holders, nmHeld, bm1Held}
+use Rattle.block.specs.Cover.{holders, heldBy}
+use Rattle.block.specs.Order.{unread}
 use Rattle.event.specs.declared.Direction.{Direction}
 use Rattle.event.specs.declared.Direction.the-variants.{Head}
 use Rattle.event.specs.Event.{dOf, hasD, directionOf, eventAt}
@@ -61,9 +64,8 @@ pub record Demand2For (o : Outfit) : Type 0 where
   pub settles : Settles
   -- one slot from any desk, whatever bytes it brings
   pub desk : SlotLaws o
-  -- blocks: every byte of an NM and of a BM1 block lies in exactly one part, inner marker or spare
-  pub nm : (k : ℕ) → k < 512 → holders k nmHeld ≡ 1
-  pub bm1 : (k : ℕ) → k < 2304 → holders k bm1Held ≡ 1
+  -- blocks: every byte of a block lies in exactly one part, inner marker or spare
+  pub cover : (x : Kind) (k : ℕ) → k < lengthOf x → holders k (heldBy x) ≡ 1
   -- with descriptor 1 bit 2 set neither descriptor 2 nor the inner markers are looked at
   pub dump : (b c : List ℕ) → length b ≡ length c → dumped b ≡ true → ((k : ℕ) → T (not (unread k)) → getD b k 0 ≡ getD c k 0)
       → (p : Part) → (locateOf b p ≡ locateOf c p) × (partOf b p ≡ partOf c p)

@@ -38,14 +38,16 @@ use Rattle.desk.proofs.slot.Reads as slot-fn
 use Rattle.desk.proofs.slot.Kinds as slot-kinds
 use Rattle.desk.proofs.missed.Reads as missed-fn
 use Rattle.desk.proofs.look.Reads as look-fn
+use Rattle.block.specs.declared.Kind.{Kind}
 use Rattle.block.specs.declared.Part.{Part}
 use Rattle.block.specs.declared.Located.{Located}
 use Rattle.block.specs.declared.Refusal.{Refusal as BlockRefusal}
 use Rattle.block.specs.Refusals as blocks
-use Rattle.block.specs.Parts.{locateOf, partOf}
+use Rattle.block.specs.Parts.{placeOf, locateOf, partOf}
 use Rattle.block.proofs.number.Reads as block-number-fn
+use Rattle.block.proofs.place_of.Reads as place-fn
 use Rattle.block.proofs.locate.Reads as locate-fn
-use Rattle.block.proofs.part_of.Reads as part-fn
+use Rattle.block.proofs.slice_of.Reads as slice-fn
 use Rattle.event.specs.declared.Evented.{Evented}
 use Rattle.event.specs.declared.Itemed.{Itemed}
 use Rattle.event.specs.Event.{directOf}
@@ -86,7 +88,10 @@ pub record OurOutfit : Type 0 where
 -- of the code. b is the lent slice.
 pub record OurBlocks : Type 0 where
   pub locate : (κs : Lfts 1) (b : RefT (List ℕ)) (p : Part) (x : Located) → locate-fn.Post κs (b, (p, tt)) x (b, (p, tt)) → x ≡ locateOf (now b) p
-  pub part : (κs : Lfts 1) (b : RefT (List ℕ)) (p : Part) (x : RefT (List ℕ)) → part-fn.Post κs (b, (p, tt)) x (b, (p, tt)) → now x ≡ partOf (now b) p
+  pub place : (k : Kind) (d1 d2 : ℕ) (p : Part) (x : Located) → place-fn.Post tt (k, (d1, (d2, (p, tt)))) x (k, (d1, (d2, (p, tt)))) → x ≡ placeOf k d1 d2 p
+  -- a part is the slice at what was located
+  pub part : (κs : Lfts 1) (b : RefT (List ℕ)) (p : Part) (l : Located) (x : RefT (List ℕ)) → locate-fn.Post κs (b, (p, tt)) l (b, (p, tt))
+      → slice-fn.Post κs (b, (l, tt)) x (b, (l, tt)) → now x ≡ partOf (now b) p
   pub event : (κs : Lfts 1) (b : RefT (List ℕ)) (n : ℕ) (x : Evented) → event-fn.Post κs (b, (n, tt)) x (b, (n, tt)) → x ≡ directOf (now b) n
   pub ifftEvent : (κs : Lfts 1) (b : RefT (List ℕ)) (n : ℕ) (x : Evented) → ifft-event-fn.Post κs (b, (n, tt)) x (b, (n, tt)) → x ≡ eventOf (now b) n
   pub ifftItem : (κs : Lfts 1) (b : RefT (List ℕ)) (n : ℕ) (x : Itemed) → ifft-item-fn.Post κs (b, (n, tt)) x (b, (n, tt)) → x ≡ itemOf (now b) n
@@ -97,7 +102,8 @@ pub record OurBlocks : Type 0 where
   pub blockNumber : (r : BlockRefusal) (n : ℕ) → block-number-fn.Post tt (r, tt) n (r, tt) → n ≡ blocks.numberOf r
   -- they ask nothing
   pub asks-locate : (κs : Lfts 1) (b : RefT (List ℕ)) (p : Part) → locate-fn.Pre κs (b, (p, tt))
-  pub asks-part : (κs : Lfts 1) (b : RefT (List ℕ)) (p : Part) → part-fn.Pre κs (b, (p, tt))
+  pub asks-place : (k : Kind) (d1 d2 : ℕ) (p : Part) → place-fn.Pre tt (k, (d1, (d2, (p, tt))))
+  pub asks-slice : (κs : Lfts 1) (b : RefT (List ℕ)) (l : Located) → slice-fn.Pre κs (b, (l, tt))
   pub asks-event : (κs : Lfts 1) (b : RefT (List ℕ)) (n : ℕ) → event-fn.Pre κs (b, (n, tt))
   pub asks-ifftEvent : (κs : Lfts 1) (b : RefT (List ℕ)) (n : ℕ) → ifft-event-fn.Pre κs (b, (n, tt))
   pub asks-ifftItem : (κs : Lfts 1) (b : RefT (List ℕ)) (n : ℕ) → ifft-item-fn.Pre κs (b, (n, tt))

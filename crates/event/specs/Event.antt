@@ -1,19 +1,18 @@
 -- Direct events (01, "Data blocks"; G 2.1 and the table of D in 2.2.3).
 -- Assumes nothing.
 use mathlib.Core.Bool.{Bool, true, _&&_}
-use mathlib.Core.List.{List}
+use mathlib.Core.List.{List, [], _∷_, _++_}
 use Prim.Native.Nat.{ℕ, _+_, _-_, _*_, _/_, _%_}
 use lib.Dec.{leb, ltb}
 use lib.ListN.{getD}
 use Rattle.base.specs.Pick.{pick}
-use Rattle.block.specs.declared.Refusal.the-variants.{Beyond}
-use Rattle.block.specs.declared.Layout.{Layout}
-use Rattle.block.specs.declared.Layout.the-variants.{Nm, Bm1, Bad}
+use Rattle.block.specs.declared.Refusal.the-variants.{Beyond, Hidden}
+use Rattle.block.specs.declared.Kind.{Kind}
 use Rattle.block.specs.declared.Part.the-variants.{DirectEvents}
-use Rattle.block.specs.declared.Located.{Located}
-use Rattle.block.specs.declared.Located.the-variants as L
-use Rattle.block.specs.Layout.{layoutOf}
-use Rattle.block.specs.Parts.{locateOf}
+use Rattle.block.specs.Refusals.{Tests, unless}
+use Rattle.block.specs.Tables.{rowIn}
+use Rattle.block.specs.Layout.{kindOf, first, second, blockTests}
+use Rattle.block.specs.Parts.{hidden}
 use Rattle.event.specs.declared.Direction.{Direction}
 use Rattle.event.specs.declared.Direction.the-variants.{Head, HeadOnly, Unknown}
 use Rattle.event.specs.declared.Event.{Event}
@@ -46,26 +45,15 @@ eventAt b at =
       direction = directionOf (getD b (at + 2) 0 % 16);
     }
 
--- 20 in NM, 106 in BM1
-abbrev pub eventsIn : Layout → ℕ
-eventsIn (Bad r) = 0
-eventsIn (Nm d1 d2) = 20
-eventsIn (Bm1 d1 d2) = 106
+-- as many as fill their part: 20 in NM, 106 in BM1
+abbrev pub eventsIn : Kind → ℕ
+eventsIn k = rowIn k DirectEvents .length / 3
 
--- the event of a number in the part that holds them, or what that part is refused with
-abbrev pub inPart : List ℕ → ℕ → Located → Evented
-inPart b n (L.At at k) = Is (eventAt b (at + 3 * n))
-inPart b n (L.Refused r) = Refused r
-
--- 22 beyond the last, then 23
-unfoldable pub nthOf : List ℕ → ℕ → ℕ → Evented
-nthOf b n count = pick (leb count n) (Refused Beyond) (inPart b n (locateOf b DirectEvents))
-
--- what is no block is refused before its events are counted
-abbrev pub inLayout : Layout → List ℕ → ℕ → Evented
-inLayout (Bad r) b n = Refused r
-inLayout (Nm d1 d2) b n = nthOf b n 20
-inLayout (Bm1 d1 d2) b n = nthOf b n 106
+-- 22 beyond the last, then 23; what is no block is refused before
+abbrev pub directTests : List ℕ → ℕ → Tests
+directTests b n =
+    blockTests b
+    ++ (leb (eventsIn (kindOf b)) n, Beyond) ∷ (hidden DirectEvents (first b) (second b (kindOf b)), Hidden) ∷ []
 
 unfoldable pub directOf : List ℕ → ℕ → Evented
-directOf b n = inLayout (layoutOf b) b n
+directOf b n = unless Refused (directTests b n) (Is (eventAt b (rowIn (kindOf b) DirectEvents .at + 3 * n)))

@@ -1,11 +1,12 @@
 // Direct events, and the events and matrix items of the IFFT block, read by number from a data block.
 // Keeps 01 "Data blocks" (direct events, IFFT2) and the rows 22 to 24 of "What the numbers mean".
 ghost use mathlib.Core.Path.{_≡_};
-ghost use Prim.Native.Nat.{_+_, _*_, _≤_, _<_};
+ghost use Prim.Native.Nat.{_+_, _*_, _≤_};
 ghost use lib.ListN.{length};
-ghost use Rattle.block.specs.Layout.{layoutOf};
-ghost use Rattle.event.specs.Event.{directionOf, eventAt, eventsIn, nthOf, directOf};
-ghost use Rattle.event.specs.Ifft.{turn, wrong, countOf, wordAt, itemAt, eventOf, itemOf};
+ghost use Rattle.event.specs.Event.{directionOf, eventAt, eventsIn, directOf};
+ghost use Rattle.event.specs.Ifft.{isNm, turn, wrong, wordAt, itemAt, eventOf, itemOf};
+ghost use Rattle.event.specs.Steps.{reach, directAt, ifftAt, eventIn};
+use block::Kind;
 use block::Layout;
 use block::Located;
 use block::Part;
@@ -32,20 +33,20 @@ pub enum Evented {
 }
 
 // Two words of the compressed matrix, marked bad where the parity of the second is wrong.
-pub struct Item {
+pub struct MatrixItem {
     pub first: u16,
     pub second: u16,
     pub good: bool,
 }
 
 pub enum Itemed {
-    Is(Item),
+    Is(MatrixItem),
     Refused(Refusal),
 }
 
-// How many entries the IFFT block has, or why it is refused.
-enum Count {
-    Of(usize),
+// Where what is asked for by number begins, or why it is refused.
+enum Entry {
+    At(usize),
     Refused(Refusal),
 }
 
@@ -75,33 +76,63 @@ fn event_at(b: &[u8], at: usize) -> Event
     }
 }
 
-// 22 before 23: a number beyond the last is never called hidden.
-fn direct(b: &[u8], n: usize, count: usize) -> Evented
-    requires { ⌜ count ≡ eventsIn (layoutOf (now b)) ⌝ }
-    ensures { λ r. ⌜ r ≡ nthOf (now (b .entry)) n count ⌝ }
+fn event_in(b: &[u8], entry: Entry) -> Evented
+    requires { ⌜ reach entry 3 ≤ length (now b) ⌝ }
+    ensures { λ r. ⌜ r ≡ eventIn (now (b .entry)) entry ⌝ }
 {
-    if count <= n {
-        return Evented::Refused(Refusal::Beyond);
-    }
-    let place = block::locate(b, Part::DirectEvents);
-    match place {
-        Located::At(at, _) => {
-            let event = event_at(b, at + 3 * n);
+    match entry {
+        Entry::At(at) => {
+            let event = event_at(b, at);
             Evented::Is(event)
         }
-        Located::Refused(r) => Evented::Refused(r),
+        Entry::Refused(r) => Evented::Refused(r),
     }
 }
 
-// The direct event of a number, from 0: 20 in NM, 106 in BM1.
-pub fn direct_event(b: &[u8], n: usize) -> Evented
-    ensures { λ r. ⌜ r ≡ directOf (now (b .entry)) n ⌝ }
+// How many direct events fill their part where nothing hides it: 20 in NM, 106 in BM1.
+fn events_in(kind: Kind) -> usize
+    ensures { λ r. ⌜ r ≡ eventsIn kind ⌝ }
+{
+    let place = block::place_of(kind, 0, 0, Part::DirectEvents);
+    match place {
+        Located::At(_, n) => n / 3,
+        Located::Refused(_) => 0,
+    }
+}
+
+// 22 before 23: a number beyond the last is never called hidden.
+fn direct_at(b: &[u8], n: usize) -> Entry
+    ensures { λ r. ⌜ r ≡ directAt (now (b .entry)) n ⌝ }
 {
     let layout = block::layout_of(b);
     match layout {
-        Layout::Bad(r) => Evented::Refused(r),
-        Layout::Nm(_, _) => direct(b, n, 20),
-        Layout::Bm1(_, _) => direct(b, n, 106),
+        Layout::Bad(r) => Entry::Refused(r),
+        Layout::Is(kind, d1, d2) => {
+            if events_in(kind) <= n {
+                return Entry::Refused(Refusal::Beyond);
+            }
+            let place = block::place_of(kind, d1, d2, Part::DirectEvents);
+            match place {
+                Located::At(at, _) => Entry::At(at + 3 * n),
+                Located::Refused(r) => Entry::Refused(r),
+            }
+        }
+    }
+}
+
+// The direct event of a number, from 0.
+pub fn direct_event(b: &[u8], n: usize) -> Evented
+    ensures { λ r. ⌜ r ≡ directOf (now (b .entry)) n ⌝ }
+{
+    event_in(b, direct_at(b, n))
+}
+
+fn is_nm(kind: Kind) -> bool
+    ensures { λ r. ⌜ r ≡ isNm kind ⌝ }
+{
+    match kind {
+        Kind::Nm => true,
+        Kind::Bm1 => false,
     }
 }
 
@@ -110,90 +141,61 @@ fn is_turn(spin: u8, first: u8) -> bool
     requires { ⌜ first ≤ 6 ⌝ }
     ensures { λ r. ⌜ r ≡ turn first spin ⌝ }
 {
-    if spin == first {
-        return true;
-    }
-    if spin == first + 2 {
-        return true;
-    }
-    spin == first + 4
+    spin == first || (spin == first + 2 || spin == first + 4)
 }
 
-// 24 of an NM block: no IFFT, a memory dump, another spin counter, or a count that the block can't hold.
-fn is_wrong(d1: u8, spin: u8, count: u8, first: u8, most: u8) -> bool
+// 24: not NM, no IFFT, a memory dump, another spin counter, or a count that the block can't hold.
+fn is_wrong(kind: Kind, d1: u8, spin: u8, count: u8, first: u8, most: u8) -> bool
     requires { ⌜ first ≤ 6 ⌝ }
-    ensures { λ r. ⌜ r ≡ wrong d1 spin count first most ⌝ }
+    ensures { λ r. ⌜ r ≡ wrong kind d1 spin count first most ⌝ }
 {
-    if d1 % 2 != 1 {
-        return true;
-    }
-    if d1 / 4 % 2 == 1 {
-        return true;
-    }
-    if is_turn(spin, first) {
-        if most < count {
-            return true;
-        }
-        return false;
-    }
-    true
+    let wanted = is_nm(kind);
+    let turn = is_turn(spin, first);
+    !wanted || (d1 % 2 != 1 || (d1 / 4 % 2 == 1 || (!turn || most < count)))
 }
 
-// How many entries an IFFT block has whose entries come first at this spin counter, and are at most so many.
-fn count_of(b: &[u8], first: u8, most: u8) -> Count
-    requires { ⌜ first ≤ 6 ⌝ }
-    ensures { λ r. ⌜ r ≡ countOf (now (b .entry)) first most ⌝ }
+// The entry of a number in the IFFT block, at 20h on: those that come first at this spin counter, are at most so many, and have this size.
+fn ifft_at(b: &[u8], n: usize, first: u8, most: u8, size: usize) -> Entry
+    requires { ⌜ (first ≤ 6) × (size ≤ 4) ⌝ }
+    ensures { λ r. ⌜ r ≡ ifftAt (now (b .entry)) n first most size ⌝ }
 {
     let layout = block::layout_of(b);
     match layout {
-        Layout::Bad(r) => Count::Refused(r),
-        Layout::Bm1(_, _) => Count::Refused(Refusal::NotIfft),
-        Layout::Nm(d1, _) => {
-            if is_wrong(d1, b[5], b[6], first, most) {
-                return Count::Refused(Refusal::NotIfft);
+        Layout::Bad(r) => Entry::Refused(r),
+        Layout::Is(kind, d1, _) => {
+            let count = b[6];
+            if is_wrong(kind, d1, b[5], count, first, most) {
+                return Entry::Refused(Refusal::NotIfft);
             }
-            Count::Of(b[6] as usize)
+            if count as usize <= n {
+                return Entry::Refused(Refusal::Beyond);
+            }
+            Entry::At(0x020 + size * n)
         }
     }
 }
 
-// The event of a number in the IFFT block: a direct event, at 20h on.
+// The event of a number in the IFFT block: a direct event.
 pub fn ifft_event(b: &[u8], n: usize) -> Evented
     ensures { λ r. ⌜ r ≡ eventOf (now (b .entry)) n ⌝ }
 {
-    let count = count_of(b, 5, 85);
-    match count {
-        Count::Refused(r) => Evented::Refused(r),
-        Count::Of(k) => {
-            if k <= n {
-                return Evented::Refused(Refusal::Beyond);
-            }
-            let event = event_at(b, 0x020 + 3 * n);
-            Evented::Is(event)
-        }
-    }
-}
-
-fn wide(x: u8) -> u16
-    ensures { λ r. ⌜ (r ≡ x) × (r < 256) ⌝ }
-{
-    x as u16
+    event_in(b, ifft_at(b, n, 5, 85, 3))
 }
 
 fn word_at(b: &[u8], at: usize) -> u16
     requires { ⌜ at + 2 ≤ length (now b) ⌝ }
     ensures { λ r. ⌜ r ≡ wordAt (now (b .entry)) at ⌝ }
 {
-    wide(b[at]) * 256 + wide(b[at + 1])
+    base::word_of(b[at], b[at + 1])
 }
 
-fn item_at(b: &[u8], at: usize) -> Item
+fn item_at(b: &[u8], at: usize) -> MatrixItem
     requires { ⌜ at + 4 ≤ length (now b) ⌝ }
     ensures { λ r. ⌜ r ≡ itemAt (now (b .entry)) at ⌝ }
 {
     let first = word_at(b, at);
     let second = word_at(b, at + 2);
-    Item {
+    MatrixItem {
         first,
         second,
         good: u16::count_ones(second) % 2 == 0,
@@ -204,15 +206,12 @@ fn item_at(b: &[u8], at: usize) -> Item
 pub fn ifft_item(b: &[u8], n: usize) -> Itemed
     ensures { λ r. ⌜ r ≡ itemOf (now (b .entry)) n ⌝ }
 {
-    let count = count_of(b, 6, 64);
-    match count {
-        Count::Refused(r) => Itemed::Refused(r),
-        Count::Of(k) => {
-            if k <= n {
-                return Itemed::Refused(Refusal::Beyond);
-            }
-            let item = item_at(b, 0x020 + 4 * n);
+    let entry = ifft_at(b, n, 6, 64, 4);
+    match entry {
+        Entry::At(at) => {
+            let item = item_at(b, at);
             Itemed::Is(item)
         }
+        Entry::Refused(r) => Itemed::Refused(r),
     }
 }

@@ -2,8 +2,9 @@
 // Keeps 01 "Data blocks": test data hides parts (23).
 use super::blocks;
 use super::print;
-use super::rows;
+use block::Kind;
 use block::Layout;
+use block::Listed;
 use block::Located;
 use block::Part;
 
@@ -14,19 +15,28 @@ fn is_hidden(b: &[u8], part: Part) -> bool {
     }
 }
 
+// The name of a part after a blank, if it is hidden; and whether it is.
+fn say_if(b: &[u8], n: usize) -> bool {
+    if let Listed::Is(part) = block::part_at(n) {
+        if is_hidden(b, part) {
+            print::text(b" ");
+            print::part(part);
+            return true;
+        }
+    }
+    false
+}
+
 // The names of the hidden parts, to the end of the line.
 fn say_hidden(b: &[u8]) {
     print::text(b" hides");
     let mut none = true;
-    let mut row: u32 = 0;
-    while row < rows::PARTS {
-        let part = rows::part(row);
-        row += 1;
-        if is_hidden(b, part) {
+    let mut n: usize = 0;
+    while n < block::PARTS {
+        if say_if(b, n) {
             none = false;
-            print::text(b" ");
-            rows::say_name(part);
         }
+        n += 1;
     }
     if none {
         print::text(b" nothing");
@@ -34,88 +44,70 @@ fn say_hidden(b: &[u8]) {
     print::text(b"\n");
 }
 
-fn in_nm(d1: u8, d2: u8) {
-    let b = blocks::nm(d1, d2);
-    say_hidden(&b);
+// A bit by itself, in the descriptor of this name.
+fn alone(kind: Kind, name: &[u8], bit: usize, d1: u8, d2: u8) {
+    let b = blocks::made(kind, d1, d2);
+    print::kind(kind);
+    print::number(name, bit);
+    say_hidden(blocks::first(&b, block::length_of(kind)));
 }
 
-fn in_bm1(d1: u8, d2: u8) {
-    let b = blocks::bm1(d1, d2);
-    say_hidden(&b);
-}
-
-const WEIGHTS: [u8; 8] = [1, 2, 4, 8, 16, 32, 64, 128];
-
-fn say_bit(name: &[u8], bit: usize) {
-    print::text(name);
-    print::text(b" bit ");
-    print::number(bit);
-}
-
-// The bit of this weight by itself, in each descriptor of each layout.
-fn alone(bit: usize, weight: u8) {
-    say_bit(b"NM descriptor1", bit);
-    in_nm(weight, 0);
-    say_bit(b"NM descriptor2", bit);
-    in_nm(0, weight);
-    say_bit(b"BM1 descriptor1", bit);
-    in_bm1(weight, 0);
-    say_bit(b"BM1 descriptor2", bit);
-    in_bm1(0, weight);
-}
-
+// The bit of this weight by itself, in each descriptor of each kind.
 fn each(weights: &[u8]) {
     let mut bit: usize = 0;
     while bit < weights.len() {
-        alone(bit, weights[bit]);
+        alone(Kind::Nm, b" descriptor1 bit ", bit, weights[bit], 0);
+        alone(Kind::Nm, b" descriptor2 bit ", bit, 0, weights[bit]);
+        alone(Kind::Bm1, b" descriptor1 bit ", bit, weights[bit], 0);
+        alone(Kind::Bm1, b" descriptor2 bit ", bit, 0, weights[bit]);
         bit += 1;
     }
 }
 
-// Descriptor 1 and descriptor 2. In a dump the second is not looked at; else bits together hide what each of them hides.
-const TOGETHER: [[u8; 2]; 5] = [
-    [0x04, 0x80],
-    [0x01, 0x80],
-    [0x08, 0x80],
-    [0x09, 0x00],
-    [0x02, 0x80],
-];
-
 fn say_two(name: &[u8], d1: u8, d2: u8) {
-    print::text(name);
-    print::pair(d1);
-    print::text(b" ");
-    print::pair(d2);
+    print::pair(name, d1);
+    print::pair(b" ", d2);
 }
 
 // What the block is found to be, and what is hidden.
 fn say_layout(b: &[u8]) {
     match block::layout_of(b) {
-        Layout::Nm(d1, d2) => say_two(b" read as NM ", d1, d2),
-        Layout::Bm1(d1, d2) => say_two(b" read as BM1 ", d1, d2),
+        Layout::Is(kind, d1, d2) => {
+            print::text(b" read as ");
+            print::kind(kind);
+            say_two(b" ", d1, d2);
+        }
         Layout::Bad(why) => print::refused(why),
     }
     say_hidden(b);
 }
 
-fn two(d1: u8, d2: u8) {
-    let nm = blocks::nm(d1, d2);
-    say_two(b"NM descriptors ", d1, d2);
-    say_layout(&nm);
-    let bm1 = blocks::bm1(d1, d2);
-    say_two(b"BM1 descriptors ", d1, d2);
-    say_layout(&bm1);
+fn two(kind: Kind, d1: u8, d2: u8) {
+    let b = blocks::made(kind, d1, d2);
+    print::kind(kind);
+    say_two(b" descriptors ", d1, d2);
+    say_layout(blocks::first(&b, block::length_of(kind)));
 }
 
+// Descriptor 1 and descriptor 2. In a dump the second is not looked at; else bits together hide what each of them hides.
 fn together(list: &[[u8; 2]]) {
     let mut i: usize = 0;
     while i < list.len() {
-        two(list[i][0], list[i][1]);
+        two(Kind::Nm, list[i][0], list[i][1]);
+        two(Kind::Bm1, list[i][0], list[i][1]);
         i += 1;
     }
 }
 
 pub(crate) fn run() {
-    each(&WEIGHTS);
-    together(&TOGETHER);
+    each(&[1, 2, 4, 8, 16, 32, 64, 128]);
+    together(
+        &[
+            [0x04, 0x80],
+            [0x01, 0x80],
+            [0x08, 0x80],
+            [0x09, 0x00],
+            [0x02, 0x80],
+        ],
+    );
 }

@@ -1,8 +1,7 @@
 // Data blocks taken apart by the compiled code, a line each; what is printed is held to the file `stdout`.
 // Shows 01 "Data blocks" and the rows 19 to 24 of "What the numbers mean".
 mod print; // print.rt: the text of the lines
-mod blocks; // blocks.rt: an NM and a BM1 block
-mod rows; // rows.rt: the parts by number, and their names
+mod blocks; // blocks.rt: a block of each kind
 mod table; // table.rt: where each part stands
 mod hidden; // hidden.rt: what each descriptor bit hides
 mod events; // events.rt: direct events by number, and every direction

@@ -2,58 +2,49 @@
 // Keeps 01 "Data blocks": the parts are those of G's two position tables.
 use super::blocks;
 use super::print;
-use super::rows;
+use block::Kind;
+use block::Listed;
 use block::Located;
 use block::Part;
 
-// A byte after a blank.
-fn byte(s: &[u8], i: usize) {
-    print::text(b" ");
-    if i < s.len() {
-        print::pair(s[i]);
-    }
-}
-
+// The first byte and the last.
 fn ends(bytes: &[u8]) {
-    print::text(b" bytes");
-    byte(bytes, 0);
     if 0 < bytes.len() {
-        byte(bytes, bytes.len() - 1);
+        print::pair(b" bytes ", bytes[0]);
+        print::pair(b" ", bytes[bytes.len() - 1]);
     }
 }
 
-// One line: layout, part, place in hex, length, first and last byte; or the refusal.
-fn show(layout: &[u8], b: &[u8], part: Part) {
-    print::text(layout);
-    print::text(b" ");
-    rows::say_name(part);
-    match block::locate(b, part) {
+// The rest of a line: place in hex, length, first and last byte; or the refusal.
+fn show(b: &[u8], part: Part) {
+    let place = block::locate(b, part);
+    match place {
         Located::At(at, n) => {
-            print::text(b" at ");
-            print::hex(at, 3);
-            print::text(b" length ");
-            print::number(n);
-            ends(block::part_of(b, part));
+            print::hex(b" at ", at, 3);
+            print::number(b" length ", n);
         }
         Located::Refused(why) => print::refused(why),
     }
+    ends(block::slice_of(b, place));
     print::text(b"\n");
 }
 
-fn list(layout: &[u8], b: &[u8]) {
-    let mut row: u32 = 0;
-    while row < rows::PARTS {
-        show(layout, b, rows::part(row));
-        row += 1;
+fn list(name: &[u8], kind: Kind, d1: u8, d2: u8) {
+    let b = blocks::made(kind, d1, d2);
+    let mut n: usize = 0;
+    while n < block::PARTS {
+        if let Listed::Is(part) = block::part_at(n) {
+            print::text(name);
+            print::part(part);
+            show(blocks::first(&b, block::length_of(kind)), part);
+        }
+        n += 1;
     }
 }
 
 // NM as a memory dump, which hides nearly all; then both layouts with nothing hidden, descriptor 2 being its own position too.
 pub(crate) fn run() {
-    let dump = blocks::nm(0x04, 0x4F);
-    list(b"NM-dump", &dump);
-    let nm = blocks::nm(0x00, 0x4F);
-    list(b"NM", &nm);
-    let bm1 = blocks::bm1(0x00, 0x54);
-    list(b"BM1", &bm1);
+    list(b"NM-dump ", Kind::Nm, 0x04, 0x4F);
+    list(b"NM ", Kind::Nm, 0x00, 0x4F);
+    list(b"BM1 ", Kind::Bm1, 0x00, 0x54);
 }

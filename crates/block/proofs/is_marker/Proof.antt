@@ -8,32 +8,25 @@ use Rattle.block.proofs.is_marker.Tie as tie
 
 returns : tie.Need-returns
 unfolding marker
-returns c = simp (ne-eqb _ _ (c .if1 .taken))
+returns c = simp (eq-eqb _ _ (c .before .before .before .if1 .taken), eq-eqb _ _ (c .before .if2 .taken))
 
 returns-2 : tie.Need-returns-2
 unfolding marker
-returns-2 c = simp (eq-eqb _ _ (c .before .before .if1 .left), ne-eqb _ _ (c .if2 .taken))
+returns-2 c = simp (eq-eqb _ _ (c .before .before .if1 .taken), ne-eqb _ _ (c .if2 .left))
 
 returns-3 : tie.Need-returns-3
 unfolding marker
-returns-3 c =
-    simp (eq-eqb _ _ (c .before .before .before .before .if1 .left), eq-eqb _ _ (c .before .before .if2 .left), ne-eqb _ _ (c .if3 .taken))
-
-returns-4 : tie.Need-returns-4
-unfolding marker
-returns-4 c =
-    simp (eq-eqb _ _ (c .before .before .before .before .if1 .left), eq-eqb _ _ (c .before .before .if2 .left), eq-eqb _ _ (c .if3 .left))
+returns-3 c = simp (ne-eqb _ _ (c .if1 .left))
 
 pub is-marker-spec : {M : Type 1} → statement M
 is-marker-spec =
     tie.close
     (tie.spec
     (λ c. search needs)
+    (λ c. search needs)
+    (λ c. search needs)
+    (λ c. search needs)
+    (λ c. search needs)
     returns
-    (λ c. search needs)
-    (λ c. search needs)
     returns-2
-    (λ c. search needs)
-    (λ c. search needs)
-    returns-3
-    returns-4)
+    returns-3)

@@ -1,47 +1,18 @@
--- `event::ifft_event` meets its contract: a block that is counted is NM, so each entry below the count lies in it.
+-- `event::ifft_event` meets its contract: the event at the entry.
 -- Assumes nothing.
-use mathlib.Core.Path.{_≡_, sym, _∙_, ap}
-use Prim.Native.Nat.{_≤_}
+use mathlib.Core.Path.{_∙_, ap}
 use native.Mathlib.Omega.{arith}
 use denote.Ref.{now}
-use lib.ListN.{length}
 use borrow.Author.Needs.{needs}
-use borrow.Author.Tests.{le-leb, lt-leb}
-use Rattle.event.specs.declared.Count.the-variants.{Of}
-use Rattle.event.specs.declared.Evented.the-variants.{Is}
-use Rattle.event.specs.Ifft.{countOf, eventOf}
-use Rattle.event.proofs.Laws.{count-in}
+use Rattle.event.specs.Steps.{eventIn}
+use Rattle.event.proofs.Laws.{ifft-ends, event-is}
 use Rattle.event.proofs.ifft_event.Statement.{statement}
 use Rattle.event.proofs.ifft_event.Tie as tie
-
-here : (c : tie.After-count2) → countOf (now (c .before .before .before .before .args .b)) 5 85 ≡ Of (c .count2 .given .0 .0)
-here c = sym (c .before .before .count-of .ensures) ∙ c .count2 .given .1
-
-fits : (c : tie.After-count2) → (length (now (c .before .before .before .before .args .b)) ≡ 512) × (c .count2 .given .0 .0 ≤ 85)
-fits c = count-in _ _ _ _ (here c)
-
-returns : tie.Need-returns
-unfolding eventOf
-returns c = simp (here (c .before .before), le-leb _ _ (c .if1 .taken))
-
-returns-2 : tie.Need-returns-2
-unfolding eventOf
-returns-2 c = let e = sym (c .before .before .before .count-of .ensures) ∙ c .before .count .given .1 in rw e
-
-returns-3 : tie.Need-returns-3
-unfolding eventOf
-returns-3 c = simp (here (c .before .before .before), lt-leb _ _ (c .before .if1 .left)) (ap Is (c .event-at .ensures))
 
 pub ifft-event-spec : {M : Type 1} → statement M
 ifft-event-spec =
     tie.close
     (tie.spec
     (λ c κs. search needs)
-    (λ c. search needs)
-    (λ c. search needs)
-    returns
-    (λ c. omega (arith, fits (c .before .before) .1))
-    (λ c. omega (arith, fits (c .before .before) .1))
-    (λ c κs. omega (arith, fits (c .before .before) .0, fits (c .before .before) .1))
-    returns-2
-    returns-3)
+    (λ c κs. rw (c .ifft-at .ensures) (ifft-ends _ _ 5 85 3 (omega arith)))
+    (λ c. c .event-in .ensures ∙ ap (eventIn (now (c .before .before .before .args .b))) (c .before .ifft-at .ensures) ∙ event-is _ _))

@@ -1,7 +1,6 @@
 -- `parts::events::directions` is safe and ends: the measure is the directions that are left.
 -- Assumes nothing.
 use Prim.Native.Nat.{_-_}
-use native.Mathlib.Omega.{arith}
 use borrow.Author.Needs.{needs}
 use Rattle.parts.proofs.events.directions.Statement.{statement}
 use Rattle.parts.proofs.events.directions.Tie as tie

@@ -1,17 +1,16 @@
 -- `parts::events::tests` is safe and ends: the measure is the descriptors that are left.
 -- Assumes nothing.
 use Prim.Native.Nat.{_-_}
-use native.Mathlib.Omega.{arith}
-use borrow.Author.Needs.{needs}
 use lib.ListN.{length}
+use borrow.Author.Needs.{needs}
 use Rattle.parts.proofs.events.tests.Statement.{statement}
 use Rattle.parts.proofs.events.tests.Tie as tie
 
 abbrev Inv-loop : tie.InvT-loop
-Inv-loop list i₀ i = Unit
+Inv-loop list i₀ t3 t4 i = Unit
 
 abbrev μ-loop : tie.MeasureT-loop
-μ-loop list i₀ i = length list - i
+μ-loop list i₀ t3 t4 i = length list - i
 
 pub tests-spec : {M : Type 1} → statement M
 tests-spec =
@@ -19,6 +18,10 @@ tests-spec =
     (tie.spec
     Inv-loop
     μ-loop
+    (λ c. search needs)
+    (λ c. search needs)
+    (λ c. search needs)
+    (λ c κs. search needs)
     (λ c. search needs)
     (λ c. search needs)
     (λ c κs. search needs)

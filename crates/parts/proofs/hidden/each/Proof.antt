@@ -1,17 +1,16 @@
--- `parts::hidden::each` is safe and ends: the measure is the bits that are left.
+-- `parts::hidden::each` is safe and ends: the measure is the weights that are left.
 -- Assumes nothing.
 use Prim.Native.Nat.{_-_}
-use native.Mathlib.Omega.{arith}
-use borrow.Author.Needs.{needs}
 use lib.ListN.{length}
+use borrow.Author.Needs.{needs}
 use Rattle.parts.proofs.hidden.each.Statement.{statement}
 use Rattle.parts.proofs.hidden.each.Tie as tie
 
 abbrev Inv-loop : tie.InvT-loop
-Inv-loop weights bit₀ bit = Unit
+Inv-loop weights bit₀ t3 t4 t5 t6 bit = Unit
 
 abbrev μ-loop : tie.MeasureT-loop
-μ-loop weights bit₀ bit = length weights - bit
+μ-loop weights bit₀ t3 t4 t5 t6 bit = length weights - bit
 
 pub each-spec : {M : Type 1} → statement M
 each-spec =
@@ -19,6 +18,16 @@ each-spec =
     (tie.spec
     Inv-loop
     μ-loop
+    (λ c. search needs)
+    (λ c. search needs)
+    (λ c. search needs)
+    (λ c κs. search needs)
+    (λ c. search needs)
+    (λ c. search needs)
+    (λ c κs. search needs)
+    (λ c. search needs)
+    (λ c. search needs)
+    (λ c κs. search needs)
     (λ c. search needs)
     (λ c. search needs)
     (λ c κs. search needs)

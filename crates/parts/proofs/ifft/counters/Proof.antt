@@ -1,16 +1,15 @@
 -- `parts::ifft::counters` is safe and ends: the measure is the counters that are left.
 -- Assumes nothing.
 use Prim.Native.Nat.{_-_}
-use native.Mathlib.Omega.{arith}
 use borrow.Author.Needs.{needs}
 use Rattle.parts.proofs.ifft.counters.Statement.{statement}
 use Rattle.parts.proofs.ifft.counters.Tie as tie
 
 abbrev Inv-loop : tie.InvT-loop
-Inv-loop entry count counter₀ counter = Unit
+Inv-loop entry first count counter₀ counter = Unit
 
 abbrev μ-loop : tie.MeasureT-loop
-μ-loop entry count counter₀ counter = 12 - counter
+μ-loop entry first count counter₀ counter = 12 - counter
 
 pub counters-spec : {M : Type 1} → statement M
 counters-spec =
@@ -18,6 +17,7 @@ counters-spec =
     (tie.spec
     Inv-loop
     μ-loop
+    (λ c κs. search needs)
     (λ c. search needs)
     (λ c κs. search needs)
     (λ c. search needs)

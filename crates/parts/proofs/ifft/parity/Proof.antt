@@ -1,9 +1,8 @@
 -- `parts::ifft::parity` is safe and ends: the measure is the words that are left.
 -- Assumes nothing.
 use Prim.Native.Nat.{_-_}
-use native.Mathlib.Omega.{arith}
-use borrow.Author.Needs.{needs}
 use lib.ListN.{length}
+use borrow.Author.Needs.{needs}
 use Rattle.parts.proofs.ifft.parity.Statement.{statement}
 use Rattle.parts.proofs.ifft.parity.Tie as tie
 
