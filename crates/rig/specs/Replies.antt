@@ -1,8 +1,9 @@
 -- What a reply says in the paper's numbers: the refusals that it gives, in their order (01, "Command words").
 -- Assumes nothing.
 use Prim.Native.Nat.{ℕ}
+use mathlib.Core.Path.{_≡_}
 use mathlib.Core.List.{List, [], _∷_}
-use lib.ListN.{length, getD}
+use lib.ListN.{length, getD, take}
 use Rattle.judge.specs.Refusals.{numberOf}
 use Rattle.rig.specs.declared.Answer.{Answer}
 use Rattle.rig.specs.declared.Answer.the-variants.{Accepted, Waiting, Refused}
@@ -25,3 +26,7 @@ refusalsOf (Dropped a) = dropNumber ∷ answerRefusals a
 -- a list of numbers, two at most: how many, and each, 0 where there is none
 abbrev pub numbersIn : List ℕ → Numbers
 numbersIn ns = record { count = length ns; first = getD ns 0 0; second = getD ns 1 0 }
+
+-- two are enough: the numbers that are told are all that the reply gives
+abbrev pub AllTold : Type 0
+AllTold = (reply : Reply) → let n = numbersIn (refusalsOf reply) in take (n .count) (n .first ∷ n .second ∷ []) ≡ refusalsOf reply
