@@ -17,6 +17,7 @@ use Rattle.sending.specs.Sending.{heldOf, nextLatch, nextFrame}
 use Rattle.laws.specs.Runs.{Happening, ours, reached}
 use Rattle.laws.proofs.Rows.{row-laws}
 use Rattle.laws.proofs.Blocks.{block-laws}
+use Rattle.laws.proofs.Parts.{parts}
 use Rattle.laws.proofs.Runs.{run-laws}
 use Rattle.block.proofs.Cover.{cover}
 use Rattle.block.proofs.Unread.{unread-alike}
@@ -45,6 +46,7 @@ demand-2 =
       rows = row-laws;
       blocks = block-laws;
       table = table-laws;
+      parts = parts;
       start = refl;
       supply = supply-laws;
       runs = run-laws;

@@ -20,6 +20,7 @@ use Rattle.rig.specs.Start.{startRig}
 use Rattle.sending.specs.Sending.{heldOf}
 use Rattle.laws.specs.Rows.{RowLaws}
 use Rattle.laws.specs.Blocks.{BlockLaws}
+use Rattle.laws.specs.Parts.{Parts}
 use Rattle.laws.specs.Runs.{Happening, reached, RunLaws}
 use Rattle.block.specs.declared.Kind.{Kind}
 use Rattle.block.specs.declared.Part.{Part}
@@ -44,6 +45,8 @@ pub record Demand2For (o : Outfit) : Type 0 where
   pub blocks : BlockLaws (o .rig .take)
   -- the lists of codes, the bits that are read and those that are not
   pub table : TableLaws
+  -- one part of a record replaced, and no other: what every rule is written with
+  pub parts : Parts
   -- the start, as 01 lists it
   pub start : o .rig .start ≡ startRig
   -- one supply: its commands, its spins, how far they bring the level

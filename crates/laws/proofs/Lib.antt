@@ -1,4 +1,5 @@
 -- The proofs of the laws: one walk of the command table and one of the decoder; every law goes by what these two say.
+pub mod Parts
 pub mod Tests
 pub mod WordKinds
 pub mod Commands
