@@ -1,3 +1,4 @@
 -- What holds of the names, and single outcome.
+pub mod Texts
 pub mod Laws
 pub mod Single

@@ -1,4 +1,4 @@
--- The name of each item, and the item of each row (01, "The 40-byte frame").
+-- The name of each item, and the item of each row (01, "The 40-byte frame"); the name of each part of a data block (01, "Data blocks").
 -- Assumes nothing.
 use mathlib.Core.List.{List}
 use Prim.Native.Nat.{ℕ}
@@ -6,6 +6,8 @@ use lib.Dec.{ltb}
 use lib.ListN.{getD}
 use Rattle.base.specs.Ascii.{ascii}
 use Rattle.base.specs.Pick.{pick}
+use Rattle.block.specs.declared.Part.{Part}
+use Rattle.block.specs.declared.Part.the-variants.{Marker, Index, Descriptor1, Calibration, MSigns, Sgl0, DirectEvents, HSpct, ISpct, Sgl1, Sgl2, Sgl3, IPad, I3dd, Mtrx, Descriptor2, EPad, E3dd, M}
 use Rattle.frame.specs.declared.Item.{Item}
 use Rattle.frame.specs.declared.Item.the-variants.{Parallel, Multiplexer1, Multiplexer2, Multiplexer3, ErrorCode, DirectionStop, DirectionStart, EnergyStop, EnergyStart, LastInvalidCode, IelEnable, ReducedCounter, Bias, Relay, Ground, StopStepping, StopLimit, StopLevel, Flap1, Flap2, Flap3, IelClock, LastCheck, InvalidCount, HeadMask, LongCounter, FreeTime}
 use Rattle.frame.specs.Items.{items, allItems}
@@ -44,3 +46,25 @@ nameOf FreeTime = ascii "FreeTime        "
 -- the item in a row; none past the last
 abbrev pub itemIn : ℕ → InRow
 itemIn k = pick (ltb k items) (Is (getD allItems k Parallel)) Nothing
+
+-- as G's position tables have it
+abbrev pub partName : Part → List ℕ
+partName Marker = ascii "marker          "
+partName Index = ascii "index           "
+partName Descriptor1 = ascii "descriptor1     "
+partName Calibration = ascii "calibration     "
+partName MSigns = ascii "m-signs         "
+partName Sgl0 = ascii "SGL0            "
+partName DirectEvents = ascii "direct-events   "
+partName HSpct = ascii "H-SPCT          "
+partName ISpct = ascii "I-SPCT          "
+partName Sgl1 = ascii "SGL1            "
+partName Sgl2 = ascii "SGL2            "
+partName Sgl3 = ascii "SGL3            "
+partName IPad = ascii "I-PAD           "
+partName I3dd = ascii "I-3DD           "
+partName Mtrx = ascii "MTRX            "
+partName Descriptor2 = ascii "descriptor2     "
+partName EPad = ascii "E-PAD           "
+partName E3dd = ascii "E-3DD           "
+partName M = ascii "m               "

@@ -1,7 +1,10 @@
-// The items by row and by name, for those who list them or ask for one.
-// Keeps 01 "The 40-byte frame": its items, in the order of their rows. A name is that of the case of `Item`.
+// The items of a frame by row and by name, and the parts of a data block by name, for those who list them or ask for one.
+// Keeps 01 "The 40-byte frame", its items in the order of their rows, and 01 "Data blocks", the parts of G's position tables.
 ghost use mathlib.Core.Path.{_≡_};
-ghost use Rattle.naming.specs.Names.{nameOf, itemIn};
+ghost use Prim.Native.Nat.{_+_, _*_, _≤_};
+ghost use lib.ListN.{length, take, drop};
+ghost use Rattle.naming.specs.Names.{nameOf, itemIn, partName};
+use block::Part;
 use frame::Item;
 
 // Room for every name.
@@ -48,17 +51,39 @@ pub fn item_in(row: usize) -> InRow
     }
 }
 
-// The name of an item, and blanks behind it. The names stand in one text, in the order of their rows, NAME bytes each.
-pub fn name_of(item: Item) -> [u8; NAME]
-    ensures { λ r. ⌜ r ≡ nameOf item ⌝ }
+// The name in a row of a text of names, NAME bytes each.
+fn cut(names: &[u8], row: usize) -> [u8; NAME]
+    requires { ⌜ 16 * row + 16 ≤ length (now names) ⌝ }
+    ensures { λ r. ⌜ r ≡ take 16 (drop (16 * row) (now (names .entry))) ⌝ }
 {
-    let names: &[u8] =
-        b"Parallel        Multiplexer1    Multiplexer2    Multiplexer3    ErrorCode       DirectionStop   DirectionStart  EnergyStop      EnergyStart     \
-        LastInvalidCode IelEnable       ReducedCounter  Bias            Relay           Ground          StopStepping    StopLimit       StopLevel       \
-        Flap1           Flap2           Flap3           IelClock        LastCheck       InvalidCount    HeadMask        LongCounter     FreeTime        ";
-    let at = NAME * frame::row_of(item);
+    let at = NAME * row;
     let end = at + NAME;
     let mut name = [0u8; NAME];
     bytes::copy(&names[at..end], &mut name);
     name
+}
+
+// The name of an item, that of its case of `Item`, and blanks behind it.
+pub fn name_of(item: Item) -> [u8; NAME]
+    ensures { λ r. ⌜ r ≡ nameOf item ⌝ }
+{
+    let names: &[u8] =
+        b"Parallel        Multiplexer1    Multiplexer2    Multiplexer3    ErrorCode       DirectionStop   \
+        DirectionStart  EnergyStop      EnergyStart     LastInvalidCode IelEnable       ReducedCounter  \
+        Bias            Relay           Ground          StopStepping    StopLimit       StopLevel       \
+        Flap1           Flap2           Flap3           IelClock        LastCheck       InvalidCount    \
+        HeadMask        LongCounter     FreeTime        ";
+    cut(names, frame::row_of(item))
+}
+
+// The name of a part, as G's position tables have it, and blanks behind it.
+pub fn part_name(part: Part) -> [u8; NAME]
+    ensures { λ r. ⌜ r ≡ partName part ⌝ }
+{
+    let names: &[u8] =
+        b"marker          index           descriptor1     calibration     m-signs         SGL0            \
+        direct-events   H-SPCT          I-SPCT          SGL1            SGL2            SGL3            \
+        I-PAD           I-3DD           MTRX            descriptor2     E-PAD           E-3DD           \
+        m               ";
+    cut(names, block::row_of(part))
 }
