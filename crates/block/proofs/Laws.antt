@@ -1,6 +1,6 @@
--- What the proofs of `locate` and `place_of` stand on: a law of tests in order; the code's columns say what 01 and G's tables say; and a part
+-- What the proofs of `locate` and `place_of` stand on: a law of tests in order; the code's rows say what 01 and G's tables say; and a part
 -- that is located is not empty and lies in its block. Assumes nothing.
-use mathlib.Core.Path.{_≡_, refl, ap, subst, _∙_}
+use mathlib.Core.Path.{_≡_, refl, sym, ap, subst, _∙_}
 use mathlib.Core.Bool.{Bool, true, false, not, _||_}
 use mathlib.Core.List.{List, [], _∷_}
 use Prim.Native.Nat.{ℕ, zero, suc, _+_, _≤_, _<_}
@@ -19,18 +19,18 @@ use Rattle.block.specs.declared.Layout.{Layout}
 use Rattle.block.specs.declared.Layout.the-variants.{Is, Bad}
 use Rattle.block.specs.declared.Part.{Part}
 use Rattle.block.specs.declared.Part.the-variants.{Marker, Index, Descriptor1, Calibration, MSigns, Sgl0, DirectEvents, HSpct, ISpct, Sgl1, Sgl2, Sgl3, IPad, I3dd, Mtrx, Descriptor2, EPad, E3dd, M}
+use Rattle.block.specs.declared.Sort.{Sort}
 use Rattle.block.specs.declared.Seen.{Seen}
 use Rattle.block.specs.declared.Columns.{Columns}
-use Rattle.block.specs.declared.Stretch.{Stretch}
 use Rattle.block.specs.declared.Listed.the-variants.{Nothing}
 use Rattle.block.specs.declared.Located.{Located}
 use Rattle.block.specs.declared.Located.the-variants.{At, Refused}
 use Rattle.block.specs.Refusals.{Tests, unless}
 use Rattle.block.specs.Kinds.{kinds, lengthOf, markerOf, secondAt}
 use Rattle.block.specs.Tables.{parts, rowOf, nth, has, rowIn}
-use Rattle.block.specs.Layout.{marker, known, bit, kindOf, first, second, blockTests, layoutOf}
+use Rattle.block.specs.Layout.{marker, known, inner, bit, kindOf, first, dumped, second, blockTests, layoutOf}
 use Rattle.block.specs.Parts.{hidden, placeTests, placeOf, locateOf, partOf}
-use Rattle.block.specs.Steps.{layoutBy, asKind, groupOf, hides, columnsOf, standsIn, foundAt}
+use Rattle.block.specs.Steps.{layoutIs, layoutBy, sortOf, asKind, groupOf, hides, columnsOf, foundAt, placeIn}
 
 -- what is made of an answer is made of it after the same tests
 pub through : {A B : Type 0} (f : A → B) (refused : Refusal → A) (ts : Tests) (a : A) → f (unless refused ts a) ≡ unless (λ (r : Refusal). f (refused r)) ts (f a)
@@ -82,6 +82,16 @@ pub third : (b : List ℕ) → eqb (getD b 0 0) 0x14 ≡ true → eqb (getD b 1 
 unfolding kindOf marker
 third b e f Nm t = (simp (e, f, t), simp (e, f, t))
 third b e f Bm1 t = (simp (e, f, t), simp (e, f, t))
+
+-- what follows a kind's marker, in a memory dump and else
+pub as-dump : (b : List ℕ) (k : Kind) → length b ≡ lengthOf k → dumped b ≡ true → Is k (first b) 0 ≡ asKind b k
+unfolding asKind
+as-dump b k l d = simp (eq-eqb _ _ l, d)
+
+pub as-whole : (b : List ℕ) (k : Kind) (x : ℕ) → length b ≡ lengthOf k → dumped b ≡ false → inner b k ≡ true → x ≡ secondAt k
+    → Is k (first b) (getD b x 0) ≡ asKind b k
+unfolding asKind
+as-whole b k x l d i e = simp (eq-eqb _ _ l, d, i) (ap (λ (y : ℕ). Is k (first b) (getD b y 0)) e)
 
 -- the descriptors stand in the block
 pub second-in : (k : Kind) → (4 < lengthOf k) × (secondAt k < lengthOf k)
@@ -200,37 +210,29 @@ module _ (d1 d2 : ℕ) where
   hides-01 E3dd = electron
   hides-01 M = electron
 
--- so what the code answers of a part's columns is what 01 and G's tables say
-pub found-01 : (k : Kind) (d1 d2 : ℕ) (p : Part) → foundAt (standsIn (columnsOf p) k) (hides (groupOf p) d1 d2) ≡ placeOf k d1 d2 p
+-- so what the code answers of a part's row is what 01 and G's tables say
+pub found-01 : (k : Kind) (d1 d2 : ℕ) (p : Part) (c : Columns) → c ≡ columnsOf k p → foundAt c d1 d2 ≡ placeOf k d1 d2 p
 unfolding placeOf
-found-01 Nm d1 d2 p = simp (lacking Nm p, hides-01 d1 d2 p)
-found-01 Bm1 d1 d2 p = simp (lacking Bm1 p, hides-01 d1 d2 p)
+found-01 k d1 d2 p c e = ap (λ (q : Columns). foundAt q d1 d2) e ∙ simp (lacking k p, hides-01 d1 d2 p)
 
-pub found-as : (k : Kind) (d1 d2 : ℕ) (p : Part) (c : Columns) (s : Stretch) (h : Bool) → c ≡ columnsOf p → s ≡ standsIn c k → h ≡ hides (c .1) d1 d2
-    → foundAt s h ≡ placeOf k d1 d2 p
-found-as k d1 d2 p c s h e f g =
-    ap (λ (t : Stretch). foundAt t h) (f ∙ ap (λ (q : Columns). standsIn q k) e)
-    ∙ ap (foundAt (standsIn (columnsOf p) k)) (g ∙ ap (λ (q : Columns). hides (q .1) d1 d2) e)
-    ∙ found-01 k d1 d2 p
+-- the code's flat record, once its sort is known
+pub seen-is : (s : Seen) (k : Sort) → s .0 ≡ k → layoutIs k (s .1) (s .2) ≡ layoutBy s
+seen-is s k e = ap (λ (q : Sort). layoutIs q (s .1) (s .2)) (sym e)
 
--- the code's flat record, by its test
-pub good-is : (s : Seen) → s .good ≡ true → Is (s .kind) (s .d1) (s .d2) ≡ layoutBy s
-good-is s e = simp e
-
-pub bad-is : (s : Seen) → s .good ≡ false → Bad (s .why) ≡ layoutBy s
-bad-is s e = simp e
+pub good-is : (k : Kind) (d1 d2 : ℕ) → layoutIs (sortOf k) d1 d2 ≡ Is k d1 d2
+good-is Nm d1 d2 = refl
+good-is Bm1 d1 d2 = refl
 
 -- what is located in a block: the block's layout, then the place there
-abbrev pub inLayout : Layout → Part → Located
-inLayout (Bad r) p = Refused r
-inLayout (Is k d1 d2) p = placeOf k d1 d2 p
-
-pub located-as : (b : List ℕ) (p : Part) → inLayout (layoutOf b) p ≡ locateOf b p
+pub located-as : (b : List ℕ) (p : Part) → placeIn (layoutOf b) p ≡ locateOf b p
 unfolding locateOf layoutOf
-located-as b p = through (λ (l : Layout). inLayout l p) Bad (blockTests b) (Is (kindOf b) (first b) (second b (kindOf b)))
+located-as b p = through (λ (l : Layout). placeIn l p) Bad (blockTests b) (Is (kindOf b) (first b) (second b (kindOf b)))
 
-pub located-seen : (b : List ℕ) (p : Part) (l : Layout) → l ≡ layoutOf b → inLayout l p ≡ locateOf b p
-located-seen b p l h = ap (λ (m : Layout). inLayout m p) h ∙ located-as b p
+pub located-seen : (b : List ℕ) (p : Part) (l m : Layout) → l ≡ layoutOf b → l ≡ m → placeIn m p ≡ locateOf b p
+located-seen b p l m e f = ap (λ (x : Layout). placeIn x p) (sym f ∙ e) ∙ located-as b p
+
+pub kind-is : (k x : Kind) (d1 d2 : ℕ) → k ≡ x → Is k d1 d2 ≡ Is x d1 d2
+kind-is k x d1 d2 e = ap (λ (y : Kind). Is y d1 d2) e
 
 -- what was found is the row's own place, shown, not empty, and in its block
 pub refused-at : (a n : ℕ) (r : Refusal) → Refused r ≡ At a n → ⊥

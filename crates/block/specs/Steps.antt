@@ -5,28 +5,40 @@ use mathlib.Core.List.{List, [], _∷_}
 use Prim.Native.Nat.{ℕ}
 use lib.Dec.{eqb}
 use Rattle.base.specs.Pick.{pick}
-use Rattle.block.specs.declared.Refusal.the-variants.{Beyond, Hidden}
+use Rattle.block.specs.declared.Refusal.the-variants.{NoMarker, WrongLength, InnerMarker, Beyond, Hidden}
 use Rattle.block.specs.declared.Kind.{Kind}
 use Rattle.block.specs.declared.Kind.the-variants.{Nm, Bm1}
 use Rattle.block.specs.declared.Layout.{Layout}
 use Rattle.block.specs.declared.Layout.the-variants.{Is, Bad}
+use Rattle.block.specs.declared.Sort.{Sort}
+use Rattle.block.specs.declared.Sort.the-variants as sort
 use Rattle.block.specs.declared.Seen.{Seen}
 use Rattle.block.specs.declared.Part.{Part}
 use Rattle.block.specs.declared.Part.the-variants.{Descriptor2}
 use Rattle.block.specs.declared.Group.{Group}
 use Rattle.block.specs.declared.Group.the-variants.{Open, Whole, Ions, Electrons}
 use Rattle.block.specs.declared.Columns.{Columns}
-use Rattle.block.specs.declared.Stretch.{Stretch}
 use Rattle.block.specs.declared.Located.{Located}
 use Rattle.block.specs.declared.Located.the-variants.{At, Refused}
 use Rattle.block.specs.Refusals.{unless}
 use Rattle.block.specs.Tables.{rowOf, among, rowIn}
 use Rattle.block.specs.Layout.{bit, first, second, kindTests}
-use Rattle.block.specs.Parts.{opening, electrons}
+use Rattle.block.specs.Parts.{opening, electrons, placeOf}
 
 -- the layout that the code's flat record stands for
+abbrev pub layoutIs : Sort → ℕ → ℕ → Layout
+layoutIs sort.Nm d1 d2 = Is Nm d1 d2
+layoutIs sort.Bm1 d1 d2 = Is Bm1 d1 d2
+layoutIs sort.NoMarker d1 d2 = Bad NoMarker
+layoutIs sort.WrongLength d1 d2 = Bad WrongLength
+layoutIs sort.InnerMarker d1 d2 = Bad InnerMarker
+
 abbrev pub layoutBy : Seen → Layout
-layoutBy s = pick (s .good) (Is (s .kind) (s .d1) (s .d2)) (Bad (s .why))
+layoutBy s = layoutIs (s .0) (s .1) (s .2)
+
+abbrev pub sortOf : Kind → Sort
+sortOf Nm = sort.Nm
+sortOf Bm1 = sort.Bm1
 
 -- what follows a kind's marker
 unfoldable pub asKind : List ℕ → Kind → Layout
@@ -44,21 +56,14 @@ hides Whole d1 d2 = bit d1 2
 hides Ions d1 d2 = bit d1 2 || (bit d1 0 || bit d1 3)
 hides Electrons d1 d2 = bit d1 2 || (bit d1 1 || bit d2 7)
 
--- what the code knows of a part, the two tables side by side; what a kind lacks has the length 0 there
-abbrev pub columnsOf : Part → Columns
-columnsOf p =
-    record {
-      0 = rowOf p;
-      1 = groupOf p;
-      2 = rowIn Nm p .at;
-      3 = rowIn Nm p .length;
-      4 = rowIn Bm1 p .at;
-      5 = rowIn Bm1 p .length;
-    }
+-- a part's row in the code; what a kind lacks has the length 0 there
+abbrev pub columnsOf : Kind → Part → Columns
+columnsOf k p = record { 0 = rowOf p; 1 = groupOf p; 2 = rowIn k p .at; 3 = rowIn k p .length }
 
-abbrev pub standsIn : Columns → Kind → Stretch
-standsIn c Nm = record { 0 = c .2; 1 = c .3 }
-standsIn c Bm1 = record { 0 = c .4; 1 = c .5 }
+abbrev pub foundAt : Columns → ℕ → ℕ → Located
+foundAt c d1 d2 = pick (eqb (c .3) 0) (Refused Beyond) (pick (hides (c .1) d1 d2) (Refused Hidden) (At (c .2) (c .3)))
 
-abbrev pub foundAt : Stretch → Bool → Located
-foundAt s h = pick (eqb (s .1) 0) (Refused Beyond) (pick h (Refused Hidden) (At (s .0) (s .1)))
+-- a part in a known layout
+abbrev pub placeIn : Layout → Part → Located
+placeIn (Bad r) p = Refused r
+placeIn (Is k d1 d2) p = placeOf k d1 d2 p

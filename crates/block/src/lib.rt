@@ -10,7 +10,7 @@ ghost use Rattle.block.specs.Kinds.{lengthOf, markerOf, secondAt};
 ghost use Rattle.block.specs.Tables.{rowOf, listedAt};
 ghost use Rattle.block.specs.Layout.{marker, inner, layoutOf};
 ghost use Rattle.block.specs.Parts.{placeOf, locateOf, bytesOf};
-ghost use Rattle.block.specs.Steps.{layoutBy, asKind, columnsOf, standsIn, hides, foundAt};
+ghost use Rattle.block.specs.Steps.{layoutBy, sortOf, asKind, columnsOf, hides, foundAt};
 
 // Why nothing is handed back: 19 to 24. The last is of the IFFT block alone.
 pub enum Refusal {
@@ -80,21 +80,21 @@ enum Group {
     Electrons,
 }
 
-// What is known of a part: its number, which test data hide it, its first byte and its length in NM, and the same in BM1. A length of 0: not in that kind.
-struct Columns(usize, Group, usize, usize, usize, usize);
+// A part's row in a table: its number, which test data hide it, its first byte and its length. A length of 0: not in that kind.
+struct Columns(usize, Group, usize, usize);
 
-// Where a part stands in one kind: its first byte and its length.
-struct Stretch(usize, usize);
-
-// The same as `Layout`, with each thing in one place whatever the case, so that the compiler can keep it out of memory. Of a block that is refused
-// kind and descriptors say nothing, of a good one the refusal does not.
-struct Seen {
-    good: bool,
-    kind: Kind,
-    d1: u8,
-    d2: u8,
-    why: Refusal,
+// What a block was found to be, descriptors aside.
+enum Sort {
+    Nm,
+    Bm1,
+    NoMarker,
+    WrongLength,
+    InnerMarker,
 }
+
+// The same as `Layout`, with the descriptors in one place whatever the case, so that the compiler can keep them out of memory.
+// Where the block is refused they say nothing.
+struct Seen(Sort, u8, u8);
 
 // The third byte of a kind's marker, after 14 6F.
 const NM_MARKER: u8 = 0x2E;
@@ -148,30 +148,57 @@ fn second_at(kind: Kind) -> usize
     }
 }
 
-// G's position tables side by side.
-fn columns_of(part: Part) -> Columns
-    ensures { λ r. ⌜ r ≡ columnsOf part ⌝ }
+// G's position table of NM.
+fn nm_row(part: Part) -> Columns
+    ensures { λ r. ⌜ r ≡ columnsOf Kind.Nm part ⌝ }
 {
     match part {
-        Part::Marker => Columns(0, Group::Open, 0x000, 3, 0x000, 3),
-        Part::Index => Columns(1, Group::Open, 0x003, 1, 0x003, 1),
-        Part::Descriptor1 => Columns(2, Group::Open, 0x004, 1, 0x004, 1),
-        Part::Calibration => Columns(3, Group::Ions, 0x005, 2, 0x005, 2),
-        Part::MSigns => Columns(4, Group::Ions, 0x007, 2, 0x007, 2),
-        Part::Sgl0 => Columns(5, Group::Ions, 0x009, 1, 0, 0),
-        Part::DirectEvents => Columns(6, Group::Ions, 0x00A, 60, 0x00A, 318),
-        Part::HSpct => Columns(7, Group::Ions, 0x046, 8, 0x148, 8),
-        Part::ISpct => Columns(8, Group::Ions, 0x04E, 4, 0x150, 4),
-        Part::Sgl1 => Columns(9, Group::Ions, 0x052, 1, 0x156, 80),
-        Part::Sgl2 => Columns(10, Group::Ions, 0x053, 3, 0x1A6, 9),
-        Part::Sgl3 => Columns(11, Group::Ions, 0x056, 1, 0x1AF, 3),
-        Part::IPad => Columns(12, Group::Ions, 0x057, 96, 0x1B2, 96),
-        Part::I3dd => Columns(13, Group::Ions, 0x0B7, 144, 0x215, 576),
-        Part::Mtrx => Columns(14, Group::Ions, 0x147, 8, 0x455, 32),
-        Part::Descriptor2 => Columns(15, Group::Whole, 0x14F, 1, 0x154, 1),
-        Part::EPad => Columns(16, Group::Electrons, 0x150, 96, 0, 0),
-        Part::E3dd => Columns(17, Group::Electrons, 0x1B0, 72, 0x478, 1152),
-        Part::M => Columns(18, Group::Electrons, 0x1F8, 8, 0x8F8, 8),
+        Part::Marker => Columns(0, Group::Open, 0x000, 3),
+        Part::Index => Columns(1, Group::Open, 0x003, 1),
+        Part::Descriptor1 => Columns(2, Group::Open, 0x004, 1),
+        Part::Calibration => Columns(3, Group::Ions, 0x005, 2),
+        Part::MSigns => Columns(4, Group::Ions, 0x007, 2),
+        Part::Sgl0 => Columns(5, Group::Ions, 0x009, 1),
+        Part::DirectEvents => Columns(6, Group::Ions, 0x00A, 60),
+        Part::HSpct => Columns(7, Group::Ions, 0x046, 8),
+        Part::ISpct => Columns(8, Group::Ions, 0x04E, 4),
+        Part::Sgl1 => Columns(9, Group::Ions, 0x052, 1),
+        Part::Sgl2 => Columns(10, Group::Ions, 0x053, 3),
+        Part::Sgl3 => Columns(11, Group::Ions, 0x056, 1),
+        Part::IPad => Columns(12, Group::Ions, 0x057, 96),
+        Part::I3dd => Columns(13, Group::Ions, 0x0B7, 144),
+        Part::Mtrx => Columns(14, Group::Ions, 0x147, 8),
+        Part::Descriptor2 => Columns(15, Group::Whole, 0x14F, 1),
+        Part::EPad => Columns(16, Group::Electrons, 0x150, 96),
+        Part::E3dd => Columns(17, Group::Electrons, 0x1B0, 72),
+        Part::M => Columns(18, Group::Electrons, 0x1F8, 8),
+    }
+}
+
+// G's position table of BM1.
+fn bm1_row(part: Part) -> Columns
+    ensures { λ r. ⌜ r ≡ columnsOf Kind.Bm1 part ⌝ }
+{
+    match part {
+        Part::Marker => Columns(0, Group::Open, 0x000, 3),
+        Part::Index => Columns(1, Group::Open, 0x003, 1),
+        Part::Descriptor1 => Columns(2, Group::Open, 0x004, 1),
+        Part::Calibration => Columns(3, Group::Ions, 0x005, 2),
+        Part::MSigns => Columns(4, Group::Ions, 0x007, 2),
+        Part::Sgl0 => Columns(5, Group::Ions, 0, 0),
+        Part::DirectEvents => Columns(6, Group::Ions, 0x00A, 318),
+        Part::HSpct => Columns(7, Group::Ions, 0x148, 8),
+        Part::ISpct => Columns(8, Group::Ions, 0x150, 4),
+        Part::Sgl1 => Columns(9, Group::Ions, 0x156, 80),
+        Part::Sgl2 => Columns(10, Group::Ions, 0x1A6, 9),
+        Part::Sgl3 => Columns(11, Group::Ions, 0x1AF, 3),
+        Part::IPad => Columns(12, Group::Ions, 0x1B2, 96),
+        Part::I3dd => Columns(13, Group::Ions, 0x215, 576),
+        Part::Mtrx => Columns(14, Group::Ions, 0x455, 32),
+        Part::Descriptor2 => Columns(15, Group::Whole, 0x154, 1),
+        Part::EPad => Columns(16, Group::Electrons, 0, 0),
+        Part::E3dd => Columns(17, Group::Electrons, 0x478, 1152),
+        Part::M => Columns(18, Group::Electrons, 0x8F8, 8),
     }
 }
 
@@ -179,7 +206,7 @@ fn columns_of(part: Part) -> Columns
 pub fn row_of(part: Part) -> usize
     ensures { λ r. ⌜ r ≡ rowOf part ⌝ }
 {
-    columns_of(part).0
+    nm_row(part).0
 }
 
 // The part of a number.
@@ -210,16 +237,6 @@ pub fn part_at(n: usize) -> Listed
     }
 }
 
-// Where the part of these columns stands in a kind.
-fn stands_in(columns: Columns, kind: Kind) -> Stretch
-    ensures { λ r. ⌜ r ≡ standsIn columns kind ⌝ }
-{
-    match kind {
-        Kind::Nm => Stretch(columns.2, columns.3),
-        Kind::Bm1 => Stretch(columns.4, columns.5),
-    }
-}
-
 // Whether the bit of this weight is set.
 fn is_set(d: u8, weight: u8) -> bool
     requires { ⌜ 0 < weight ⌝ }
@@ -247,25 +264,29 @@ fn is_hidden(group: Group, d1: u8, d2: u8) -> bool
 }
 
 // 22 before 23: a part that a kind does not have is never called hidden.
-fn found_at(place: Stretch, hidden: bool) -> Located
-    ensures { λ r. ⌜ r ≡ foundAt place hidden ⌝ }
+fn found_at(row: Columns, d1: u8, d2: u8) -> Located
+    ensures { λ r. ⌜ r ≡ foundAt row d1 d2 ⌝ }
 {
-    if place.1 == 0 {
+    let group = row.1;
+    let absent = row.3 == 0;
+    let hidden = is_hidden(group, d1, d2);
+    if absent {
         return Located::Refused(Refusal::Beyond);
     }
     if hidden {
         return Located::Refused(Refusal::Hidden);
     }
-    Located::At(place.0, place.1)
+    Located::At(row.2, row.3)
 }
 
 // Where a part stands in a block of this kind with these descriptors: its first byte and its length; or 22, or 23.
 pub fn place_of(kind: Kind, d1: u8, d2: u8, part: Part) -> Located
     ensures { λ r. ⌜ r ≡ placeOf kind d1 d2 part ⌝ }
 {
-    let columns = columns_of(part);
-    let group = columns.1;
-    found_at(stands_in(columns, kind), is_hidden(group, d1, d2))
+    match kind {
+        Kind::Nm => found_at(nm_row(part), d1, d2),
+        Kind::Bm1 => found_at(bm1_row(part), d1, d2),
+    }
 }
 
 // Whether the three bytes at a place are x, y and z.
@@ -287,27 +308,12 @@ fn is_inner(b: &[u8], kind: Kind) -> bool
     }
 }
 
-fn bad(why: Refusal) -> Seen
-    ensures { λ r. ⌜ layoutBy r ≡ Layout.Bad why ⌝ }
+fn sort_of(kind: Kind) -> Sort
+    ensures { λ r. ⌜ r ≡ sortOf kind ⌝ }
 {
-    Seen {
-        good: false,
-        kind: Kind::Nm,
-        d1: 0,
-        d2: 0,
-        why,
-    }
-}
-
-fn good(kind: Kind, d1: u8, d2: u8) -> Seen
-    ensures { λ r. ⌜ layoutBy r ≡ Layout.Is kind d1 d2 ⌝ }
-{
-    Seen {
-        good: true,
-        kind,
-        d1,
-        d2,
-        why: Refusal::NoMarker,
+    match kind {
+        Kind::Nm => Sort::Nm,
+        Kind::Bm1 => Sort::Bm1,
     }
 }
 
@@ -316,15 +322,16 @@ fn seen_as(b: &[u8], kind: Kind) -> Seen
     ensures { λ r. ⌜ layoutBy r ≡ asKind (now (b .entry)) kind ⌝ }
 {
     if b.len() != length_of(kind) {
-        return bad(Refusal::WrongLength);
+        return Seen(Sort::WrongLength, 0, 0);
     }
+    let sort = sort_of(kind);
     if is_set(b[D1], 4) {
-        return good(kind, b[D1], 0);
+        return Seen(sort, b[D1], 0);
     }
     if is_inner(b, kind) {
-        return good(kind, b[D1], b[second_at(kind)]);
+        return Seen(sort, b[D1], b[second_at(kind)]);
     }
-    bad(Refusal::InnerMarker)
+    Seen(Sort::InnerMarker, 0, 0)
 }
 
 // What a block is, or the first of 20 (under 3 bytes), 19, 20, 21 that it is refused with.
@@ -332,16 +339,16 @@ fn seen_in(b: &[u8]) -> Seen
     ensures { λ r. ⌜ layoutBy r ≡ layoutOf (now (b .entry)) ⌝ }
 {
     if b.len() < 3 {
-        return bad(Refusal::WrongLength);
+        return Seen(Sort::WrongLength, 0, 0);
     }
     if b[0] != 0x14 || b[1] != 0x6F {
-        return bad(Refusal::NoMarker);
+        return Seen(Sort::NoMarker, 0, 0);
     }
     let third = b[2];
     match third {
         NM_MARKER => seen_as(b, Kind::Nm),
         BM1_MARKER => seen_as(b, Kind::Bm1),
-        _ => bad(Refusal::NoMarker),
+        _ => Seen(Sort::NoMarker, 0, 0),
     }
 }
 
@@ -350,25 +357,29 @@ pub fn layout_of(b: &[u8]) -> Layout
     ensures { λ r. ⌜ r ≡ layoutOf (now (b .entry)) ⌝ }
 {
     let s = seen_in(b);
-    let kind = s.kind;
-    let why = s.why;
-    if s.good {
-        return Layout::Is(kind, s.d1, s.d2);
+    let sort = s.0;
+    match sort {
+        Sort::Nm => Layout::Is(Kind::Nm, s.1, s.2),
+        Sort::Bm1 => Layout::Is(Kind::Bm1, s.1, s.2),
+        Sort::NoMarker => Layout::Bad(Refusal::NoMarker),
+        Sort::WrongLength => Layout::Bad(Refusal::WrongLength),
+        Sort::InnerMarker => Layout::Bad(Refusal::InnerMarker),
     }
-    Layout::Bad(why)
 }
 
-// Where a part stands: its first byte and its length; or the refusal.
+// Where a part stands: its first byte and its length; or the refusal. The kind is named in each arm, so that the compiler has one choice by the
+// part for each.
 pub fn locate(b: &[u8], part: Part) -> Located
     ensures { λ r. ⌜ r ≡ locateOf (now (b .entry)) part ⌝ }
 {
-    let s = seen_in(b);
-    let kind = s.kind;
-    let why = s.why;
-    if s.good {
-        return place_of(kind, s.d1, s.d2, part);
+    let layout = layout_of(b);
+    match layout {
+        Layout::Bad(r) => Located::Refused(r),
+        Layout::Is(kind, d1, d2) => match kind {
+            Kind::Nm => place_of(Kind::Nm, d1, d2, part),
+            Kind::Bm1 => place_of(Kind::Bm1, d1, d2, part),
+        },
     }
-    Located::Refused(why)
 }
 
 // Whether so many bytes from a place on are within a length.

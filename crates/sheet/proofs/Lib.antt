@@ -1,2 +1,3 @@
--- Single outcome.
+-- What holds of the sheet, and single outcome.
+pub mod Laws
 pub mod Single

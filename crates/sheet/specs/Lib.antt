@@ -1,2 +1,3 @@
 -- The sheet of what a desk shows.
 pub mod Sheeted
+pub mod Laws

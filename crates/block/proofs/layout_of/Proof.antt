@@ -1,8 +1,8 @@
--- `block::layout_of` meets its contract: the flat record, taken by its test.
+-- `block::layout_of` meets its contract: in each arm the sort is known.
 -- Assumes nothing.
 use mathlib.Core.Path.{_∙_}
 use borrow.Author.Needs.{needs}
-use Rattle.block.proofs.Laws.{good-is, bad-is}
+use Rattle.block.proofs.Laws.{seen-is}
 use Rattle.block.proofs.layout_of.Statement.{statement}
 use Rattle.block.proofs.layout_of.Tie as tie
 
@@ -11,5 +11,13 @@ layout-of-spec =
     tie.close
     (tie.spec
     (λ c κs. search needs)
-    (λ c. good-is _ (c .if1 .taken) ∙ c .before .seen-in .ensures)
-    (λ c. bad-is _ (c .if1 .left) ∙ c .before .seen-in .ensures))
+    (λ c. search needs)
+    (λ c. search needs)
+    (λ c. search needs)
+    (λ c. search needs)
+    (λ c. search needs)
+    (λ c. seen-is _ _ (c .enum-told .given .1) ∙ c .before .before .seen-in .ensures)
+    (λ c. seen-is _ _ (c .enum-told2 .given .1) ∙ c .before .before .seen-in .ensures)
+    (λ c. seen-is _ _ (c .enum-told3 .given .1) ∙ c .before .before .seen-in .ensures)
+    (λ c. seen-is _ _ (c .enum-told4 .given .1) ∙ c .before .before .seen-in .ensures)
+    (λ c. seen-is _ _ (c .enum-told5 .given .1) ∙ c .before .before .seen-in .ensures))

@@ -1,4 +1,4 @@
--- `block::row_of` meets its contract: the first of the columns.
+-- `block::row_of` meets its contract: the first column.
 -- Assumes nothing.
 use mathlib.Core.Path.{ap}
 use borrow.Author.Needs.{needs}
@@ -7,4 +7,4 @@ use Rattle.block.proofs.row_of.Statement.{statement}
 use Rattle.block.proofs.row_of.Tie as tie
 
 pub row-of-spec : {M : Type 1} → statement M
-row-of-spec = tie.close (tie.spec (λ c κs. search needs) (λ c. ap (λ (r : Columns). r .0) (c .columns-of .ensures)))
+row-of-spec = tie.close (tie.spec (λ c κs. search needs) (λ c. ap (λ (r : Columns). r .0) (c .nm-row .ensures)))

@@ -26,15 +26,14 @@ second c = not-false (eqb (getD (now (c .before .before .before .before .before 
 
 returns : tie.Need-returns
 unfolding layoutOf
-returns c = simp (c .bad .ensures, lt-ltb _ _ (c .before .if1 .taken))
+returns c = simp (lt-ltb _ _ (c .if1 .taken))
 
 returns-2 : tie.Need-returns-2
 unfolding marker
 returns-2 c =
-    let b = now (c .before .before .before .before .before .args .b) in
-    let l = long (c .before .before .before) in
-    c .bad2 .ensures
-    ∙ elim (c .before .if2 .came) [
+    let b = now (c .before .before .before .before .args .b) in
+    let l = long (c .before .before) in
+    elim (c .if2 .came) [
       | inl e ↦ unmarked b l (simp (ne-eqb _ _ (e .taken)))
       | inr e ↦ unmarked b l (simp (eq-eqb _ _ (e .0 .left), not-true (eqb (getD b 1 0) 0x6F) (e .2 .taken)))
     ]
@@ -54,24 +53,20 @@ returns-4 c =
 returns-5 : tie.Need-returns-5
 unfolding marker
 returns-5 c =
-    let d = c .before .before .before in
-    let r = c .before .match .rest in
-    c .bad3 .ensures
-    ∙ unmarked _ (long (d .before .before .before .before))
+    let d = c .before .before in
+    let r = c .match .rest in
+    unmarked _ (long (d .before .before .before .before))
     (simp (first (d .before .before), second d, ne-eqb _ _ (r .0 .1), ne-eqb _ _ (r .1)))
 
 pub seen-in-spec : {M : Type 1} → statement M
 seen-in-spec =
     tie.close
     (tie.spec
-    (λ c κs. search needs)
     returns
     (λ c. search needs)
     (λ c. search needs)
-    (λ c κs. search needs)
     returns-2
     (λ c. search needs)
-    (λ c κs. search needs)
     (λ c κs. search needs)
     (λ c κs. search needs)
     returns-3

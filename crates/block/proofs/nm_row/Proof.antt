@@ -1,11 +1,11 @@
--- `block::columns_of` meets its contract: in each arm the part is known, and its columns compute.
+-- `block::nm_row` meets its contract: in each arm the part is known, and its row computes.
 -- Assumes nothing.
 use borrow.Author.Needs.{needs}
-use Rattle.block.proofs.columns_of.Statement.{statement}
-use Rattle.block.proofs.columns_of.Tie as tie
+use Rattle.block.proofs.nm_row.Statement.{statement}
+use Rattle.block.proofs.nm_row.Tie as tie
 
-pub columns-of-spec : {M : Type 1} → statement M
-columns-of-spec =
+pub nm-row-spec : {M : Type 1} → statement M
+nm-row-spec =
     tie.close
     (tie.spec
     (λ c. search needs)
