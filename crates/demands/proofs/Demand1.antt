@@ -14,12 +14,12 @@ use Rattle.rig.specs.declared.Rig.{Rig}
 use Rattle.sending.specs.declared.Built.{Built}
 use Rattle.sending.specs.Sending.{heldOf, nextLatch, sent, builtOf}
 use Rattle.laws.proofs.Replies.{reply-laws}
-use Rattle.block.proofs.Order.{order, place-order}
+use Rattle.block.proofs.Order.{place-order}
 use Rattle.block.proofs.Laws.{part-length, part-none}
-use Rattle.event.proofs.Order.{direct-order, event-order, item-order}
 use Rattle.demands.specs.Outfit.{proved}
 use Rattle.demands.specs.Demand1.{Demand1For}
 use Rattle.demands.proofs.Numbers.{all-numbers}
+use Rattle.demands.proofs.Orders.{part-order, event-order-01, ifft-event-order, ifft-item-order}
 
 with-room : (r : Rig) (b : List ℕ) (at : ℕ) → at + 40 ≤ length b → _≡_ {A = Built} (builtOf r b at) (record { rig = sent r; wrote = Done })
 with-room r b at h = simp (le-ltb _ _ h)
@@ -37,11 +37,11 @@ demand-1 =
       heard = λ d f w. ap (λ (t : Received). t .answer) (desk-laws .whole d f (w .forty) (w .notC0) (w .notFF));
       room18 = λ r b at h. (no-room r b at h, short (heldOf r) (r .sending .next) (nextLatch r) at b h .1);
       room = λ r b at h. (with-room r b at h, room (heldOf r) (r .sending .next) (nextLatch r) at b h .1);
-      part = order;
+      part = part-order;
       place = place-order;
-      event = direct-order;
-      ifftEvent = event-order;
-      ifftItem = item-order;
+      event = event-order-01;
+      ifftEvent = ifft-event-order;
+      ifftItem = ifft-item-order;
       empty = part-none;
       filled = part-length;
     }

@@ -8,6 +8,7 @@ pub mod Queue
 pub mod AnyDesk
 pub mod Held
 pub mod Numbers
+pub mod Orders
 pub mod Demand1
 pub mod Demand2
 pub mod Demand3

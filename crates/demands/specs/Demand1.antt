@@ -18,10 +18,11 @@ use Rattle.block.specs.declared.Refusal.{Refusal}
 use Rattle.block.specs.declared.Located.the-variants as located
 use Rattle.block.specs.Refusals.{firstOf}
 use Rattle.block.specs.Parts.{placeTests, placeOf, locateOf, partOf}
-use Rattle.block.specs.Order.{numberIn, partTests}
-use Rattle.event.specs.Event.{directTests, directOf}
-use Rattle.event.specs.Ifft.{ifftTests, eventOf, itemOf}
+use Rattle.block.specs.Order.{numberIn}
+use Rattle.event.specs.Event.{directOf}
+use Rattle.event.specs.Ifft.{eventOf, itemOf}
 use Rattle.event.specs.Order.{eventNumber, itemNumber}
+use Rattle.demands.specs.Orders.{firstIn, ofPart, ofEvent, ofIfft}
 use Rattle.demands.specs.Outfit.{Outfit, fillC0, fillFF}
 use Rattle.demands.specs.Numbers.{Numbers}
 use Rattle.demands.specs.AnyDesk.{IsWhole}
@@ -45,11 +46,11 @@ pub record Demand1For (o : Outfit) : Type 0 where
   pub room : (r : Rig) (b : List ℕ) (at : ℕ) → at + 40 ≤ length b
       → (o .build r b at ≡ record { rig = o .rig .sent r; wrote = wrote.Done }) × (o .filled r b at ≡ take at b ++ (o .frame r ++ drop (at + 40) b))
   -- 19 to 24, of any bytes, in 01's order: the first whose condition holds; 0 stands for an answer that is no refusal
-  pub part : (b : List ℕ) (p : Part) → numberIn (locateOf b p) ≡ firstOf (partTests b p)
+  pub part : (b : List ℕ) (p : Part) → numberIn (locateOf b p) ≡ firstIn (ofPart b p)
   pub place : (k : Kind) (d1 d2 : ℕ) (p : Part) → numberIn (placeOf k d1 d2 p) ≡ firstOf (placeTests k d1 d2 p)
-  pub event : (b : List ℕ) (n : ℕ) → eventNumber (directOf b n) ≡ firstOf (directTests b n)
-  pub ifftEvent : (b : List ℕ) (n : ℕ) → eventNumber (eventOf b n) ≡ firstOf (ifftTests b n 5 85)
-  pub ifftItem : (b : List ℕ) (n : ℕ) → itemNumber (itemOf b n) ≡ firstOf (ifftTests b n 6 64)
+  pub event : (b : List ℕ) (n : ℕ) → eventNumber (directOf b n) ≡ firstIn (ofEvent b n)
+  pub ifftEvent : (b : List ℕ) (n : ℕ) → eventNumber (eventOf b n) ≡ firstIn (ofIfft b n 5 85)
+  pub ifftItem : (b : List ℕ) (n : ℕ) → itemNumber (itemOf b n) ≡ firstIn (ofIfft b n 6 64)
   -- a refused part is handed back empty, and a located one is not empty
   pub empty : (b : List ℕ) (p : Part) (r : Refusal) → locateOf b p ≡ located.Refused r → partOf b p ≡ []
   pub filled : (b : List ℕ) (p : Part) (at n : ℕ) → locateOf b p ≡ located.At at n → (0 < n) × (length (partOf b p) ≡ n)

@@ -1,0 +1,67 @@
+-- 01's order of the numbers 19 to 24, of any bytes: the first whose condition holds.
+-- Keeps 01 "What the numbers mean"; said in 01's own numbers, apart from the tests that `block` and `event` are written with. Assumes nothing.
+use mathlib.Core.Bool.{Bool, not, _&&_, _||_}
+use mathlib.Core.List.{List, [], _∷_, _++_}
+use Prim.Native.Nat.{ℕ, _+_}
+use lib.Dec.{eqb, leb, ltb}
+use lib.ListN.{length, getD}
+use Rattle.base.specs.Pick.{pick}
+use Rattle.block.specs.declared.Part.{Part}
+use Rattle.block.specs.declared.Part.the-variants.{Sgl0, DirectEvents, EPad}
+use Rattle.block.specs.Tables.{among}
+use Rattle.block.specs.Layout.{marker, bit}
+use Rattle.block.specs.Parts.{hidden}
+
+-- the first number whose condition holds, and 0 if none does
+abbrev pub firstIn : List (Bool × ℕ) → ℕ
+firstIn [] = 0
+firstIn (t ∷ ts) = pick (t .0) (t .1) (firstIn ts)
+
+abbrev pub nm : List ℕ → Bool
+nm b = marker b 0x000 0x14 0x6F 0x2E
+
+abbrev pub bm1 : List ℕ → Bool
+bm1 b = marker b 0x000 0x14 0x6F 0x3D
+
+-- descriptor 1, and descriptor 2, which counts as 0 in a memory dump
+abbrev pub d1 : List ℕ → ℕ
+d1 b = getD b 4 0
+
+abbrev pub d2 : List ℕ → ℕ
+d2 b = pick (bit (d1 b) 2) 0 (getD b (pick (nm b) 0x14F 0x154) 0)
+
+abbrev pub innerMarkers : List ℕ → Bool
+innerMarkers b = marker b 0x212 0x4C 0x43 0xE2 && marker b 0x475 0x54 0xE1 0xE1
+
+-- of the block: under 3 bytes; no marker; another length than its kind's; an inner marker wrong, which a memory dump is not asked for
+abbrev pub ofBlock : List ℕ → List (Bool × ℕ)
+ofBlock b =
+    (ltb (length b) 3, 20)
+    ∷ (not (nm b || bm1 b), 19)
+    ∷ (not (eqb (length b) (pick (nm b) 512 2304)), 20)
+    ∷ (not (nm b) && not (bit (d1 b) 2 || innerMarkers b), 21)
+    ∷ []
+
+-- of a part then: SGL0 and E-PAD are not in BM1; hidden by test data
+abbrev pub ofPart : List ℕ → Part → List (Bool × ℕ)
+ofPart b p = ofBlock b ++ (not (nm b) && among p (Sgl0 ∷ EPad ∷ []), 22) ∷ (hidden p (d1 b) (d2 b), 23) ∷ []
+
+-- of a direct event: 20 in NM, 106 in BM1
+abbrev pub ofEvent : List ℕ → ℕ → List (Bool × ℕ)
+ofEvent b n = ofBlock b ++ (leb (pick (nm b) 20 106) n, 22) ∷ (hidden DirectEvents (d1 b) (d2 b), 23) ∷ []
+
+-- of an entry of the IFFT block: not NM, or descriptor 1 bit 0 clear or bit 2 set, or byte 5 none of three spin counters, or byte 6 above the most
+abbrev pub ofIfft : List ℕ → ℕ → ℕ → ℕ → List (Bool × ℕ)
+ofIfft b n from most =
+    let spin = getD b 5 0 in
+    ofBlock b
+    ++ (
+      not (nm b)
+          || not (bit (d1 b) 0)
+          || bit (d1 b) 2
+          || not (eqb spin from || eqb spin (from + 2) || eqb spin (from + 4))
+          || ltb most (getD b 6 0),
+      24,
+    )
+    ∷ (leb (getD b 6 0) n, 22)
+    ∷ []
