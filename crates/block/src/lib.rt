@@ -268,9 +268,8 @@ fn found_at(row: Columns, d1: u8, d2: u8) -> Located
     ensures { λ r. ⌜ r ≡ foundAt row d1 d2 ⌝ }
 {
     let group = row.1;
-    let absent = row.3 == 0;
     let hidden = is_hidden(group, d1, d2);
-    if absent {
+    if row.3 == 0 {
         return Located::Refused(Refusal::Beyond);
     }
     if hidden {
