@@ -22,12 +22,11 @@ use Rattle.block.specs.declared.Part.the-variants.{Marker, Index, Descri
 use Rattle.block.specs.declared.Sort.{Sort}
 use Rattle.block.specs.declared.Seen.{Seen}
 use Rattle.block.specs.declared.Columns.{Columns}
-use Rattle.block.specs.declared.Listed.the-variants.{Nothing}
 use Rattle.block.specs.declared.Located.{Located}
 use Rattle.block.specs.declared.Located.the-variants.{At, Refused}
 use Rattle.block.specs.Refusals.{Tests, unless}
 use Rattle.block.specs.Kinds.{kinds, lengthOf, markerOf, secondAt}
-use Rattle.block.specs.Tables.{parts, rowOf, nth, has, rowIn}
+use Rattle.block.specs.Tables.{parts, rowOf, has, rowIn}
 use Rattle.block.specs.Layout.{marker, known, inner, bit, kindOf, first, dumped, second, blockTests, layoutOf}
 use Rattle.block.specs.Parts.{hidden, placeTests, placeOf, locateOf, partOf}
 use Rattle.block.specs.Steps.{layoutIs, layoutBy, sortOf, asKind, groupOf, hides, columnsOf, foundAt, placeIn}
@@ -131,12 +130,6 @@ ranked M = refl
 
 pub every-part : (f : Part → Bool) → T (allOf f parts) → (p : Part) → T (f p)
 every-part f t p = subst (λ (q : Part). T (f q)) (ranked p) (all-at f parts t (both-left (f Marker) _ t) (rowOf p))
-
--- past the last there is no part
-pub nth-past : (ps : List Part) (n : ℕ) → length ps ≤ n → Nothing ≡ nth ps n
-nth-past [] n h = refl
-nth-past (p ∷ ps) zero h = absurd (omega arith)
-nth-past (p ∷ ps) (suc n) h = nth-past ps n (omega arith)
 
 -- a number that is none of the first so many is past them
 abbrev pub NoneOf : ℕ → ℕ → Type 0

@@ -10,13 +10,11 @@ use Rattle.block.specs.declared.Refusal.{Refusal}
 use Rattle.block.specs.declared.Kind.{Kind}
 use Rattle.block.specs.declared.Layout.{Layout}
 use Rattle.block.specs.declared.Part.{Part}
-use Rattle.block.specs.declared.Listed.{Listed}
 use Rattle.block.specs.declared.Located.{Located}
 use Rattle.block.proofs.number.Reads as number
 use Rattle.block.proofs.length_of.Reads as length-of
 use Rattle.block.proofs.marker_of.Reads as marker-of
 use Rattle.block.proofs.row_of.Reads as row-of
-use Rattle.block.proofs.part_at.Reads as part-at
 use Rattle.block.proofs.place_of.Reads as place-of
 use Rattle.block.proofs.layout_of.Reads as layout-of
 use Rattle.block.proofs.locate.Reads as locate
@@ -33,9 +31,6 @@ marker-of-one k r q m n = same m n
 
 pub row-of-one : (p : Part) (r q : ℕ) → row-of.Post tt (p, tt) r (p, tt) → row-of.Post tt (p, tt) q (p, tt) → r ≡ q
 row-of-one p r q m n = same m n
-
-pub part-at-one : (i : ℕ) (r q : Listed) → part-at.Post tt (i, tt) r (i, tt) → part-at.Post tt (i, tt) q (i, tt) → r ≡ q
-part-at-one i r q m n = same m n
 
 pub place-of-one : (k : Kind) (d1 d2 : ℕ) (p : Part) (r q : Located) → place-of.Post tt (k, (d1, (d2, (p, tt)))) r (k, (d1, (d2, (p, tt))))
     → place-of.Post tt (k, (d1, (d2, (p, tt)))) q (k, (d1, (d2, (p, tt)))) → r ≡ q

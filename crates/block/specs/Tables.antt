@@ -9,8 +9,6 @@ use Rattle.block.specs.declared.Kind.{Kind}
 use Rattle.block.specs.declared.Kind.the-variants.{Nm, Bm1}
 use Rattle.block.specs.declared.Part.{Part}
 use Rattle.block.specs.declared.Part.the-variants.{Marker, Index, Descriptor1, Calibration, MSigns, Sgl0, DirectEvents, HSpct, ISpct, Sgl1, Sgl2, Sgl3, IPad, I3dd, Mtrx, Descriptor2, EPad, E3dd, M}
-use Rattle.block.specs.declared.Listed.{Listed}
-use Rattle.block.specs.declared.Listed.the-variants.{Is, Nothing}
 
 -- a row: a part, its position and its length
 pub record Row : Type 0 where
@@ -91,15 +89,6 @@ partsIn (r ∷ rs) = r .part ∷ partsIn rs
 
 abbrev pub parts : List Part
 parts = partsIn (rowsOf Nm)
-
--- the part of a number, if there are so many
-abbrev pub nth : List Part → ℕ → Listed
-nth [] n = Nothing
-nth (p ∷ ps) zero = Is p
-nth (p ∷ ps) (suc n) = nth ps n
-
-abbrev pub listedAt : ℕ → Listed
-listedAt n = nth parts n
 
 -- a part is one of those listed
 abbrev pub among : Part → List Part → Bool

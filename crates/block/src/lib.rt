@@ -7,7 +7,7 @@ ghost use lib.Dec.{eqb, leb};
 ghost use lib.ListN.{length};
 ghost use Rattle.block.specs.Refusals.{numberOf};
 ghost use Rattle.block.specs.Kinds.{lengthOf, markerOf, secondAt};
-ghost use Rattle.block.specs.Tables.{rowOf, listedAt};
+ghost use Rattle.block.specs.Tables.{rowOf};
 ghost use Rattle.block.specs.Layout.{marker, inner, layoutOf};
 ghost use Rattle.block.specs.Parts.{placeOf, locateOf, bytesOf};
 ghost use Rattle.block.specs.Steps.{layoutBy, sortOf, asKind, columnsOf, hides, foundAt};
@@ -55,15 +55,6 @@ pub enum Part {
     EPad,
     E3dd,
     M,
-}
-
-// How many parts there are.
-pub const PARTS: usize = 19;
-
-// The part of a number, if there are so many.
-pub enum Listed {
-    Is(Part),
-    Nothing,
 }
 
 // A part's first byte and its length, or why it is refused.
@@ -207,34 +198,6 @@ pub fn row_of(part: Part) -> usize
     ensures { λ r. ⌜ r ≡ rowOf part ⌝ }
 {
     nm_row(part).0
-}
-
-// The part of a number.
-pub fn part_at(n: usize) -> Listed
-    ensures { λ r. ⌜ r ≡ listedAt n ⌝ }
-{
-    match n {
-        0 => Listed::Is(Part::Marker),
-        1 => Listed::Is(Part::Index),
-        2 => Listed::Is(Part::Descriptor1),
-        3 => Listed::Is(Part::Calibration),
-        4 => Listed::Is(Part::MSigns),
-        5 => Listed::Is(Part::Sgl0),
-        6 => Listed::Is(Part::DirectEvents),
-        7 => Listed::Is(Part::HSpct),
-        8 => Listed::Is(Part::ISpct),
-        9 => Listed::Is(Part::Sgl1),
-        10 => Listed::Is(Part::Sgl2),
-        11 => Listed::Is(Part::Sgl3),
-        12 => Listed::Is(Part::IPad),
-        13 => Listed::Is(Part::I3dd),
-        14 => Listed::Is(Part::Mtrx),
-        15 => Listed::Is(Part::Descriptor2),
-        16 => Listed::Is(Part::EPad),
-        17 => Listed::Is(Part::E3dd),
-        18 => Listed::Is(Part::M),
-        _ => Listed::Nothing,
-    }
 }
 
 // Whether the bit of this weight is set.

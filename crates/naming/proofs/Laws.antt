@@ -13,6 +13,7 @@ use Rattle.block.proofs.Laws.{ranked, every-part}
 use Rattle.frame.specs.declared.Item.{Item}
 use Rattle.frame.specs.Items.{items, rowOf}
 use Rattle.frame.proofs.Rows.{itemAt, item-at, row-lt}
+use Rattle.naming.specs.declared.Listed.the-variants as listed
 use Rattle.naming.specs.declared.InRow.the-variants.{Is}
 use Rattle.naming.specs.Names.{nameOf, itemIn, partName}
 use Rattle.naming.specs.Laws.{Laws}
@@ -39,6 +40,7 @@ laws =
       past = λ k h. rw (le-ltb _ _ h);
       apart = apart nameOf itemAt rowOf item-at items row-lt tt;
       room = room;
+      part-found = λ p. rw (lt-ltb _ _ (part-lt p)) (ap listed.Is (ranked p));
       parts-apart = apart partName partAt tables.rowOf ranked 19 part-lt tt;
       parts-room = parts-room;
     }

@@ -7,12 +7,17 @@ use Rattle.base.proofs.Single.{same}
 use Rattle.block.specs.declared.Part.{Part}
 use Rattle.frame.specs.declared.Item.{Item}
 use Rattle.naming.specs.declared.InRow.{InRow}
+use Rattle.naming.specs.declared.Listed.{Listed}
 use Rattle.naming.proofs.item_in.Reads as item-in
+use Rattle.naming.proofs.part_in.Reads as part-in
 use Rattle.naming.proofs.name_of.Reads as name-of
 use Rattle.naming.proofs.part_name.Reads as part-name
 
 pub item-in-one : (k : ℕ) (r q : InRow) → item-in.Post tt (k, tt) r (k, tt) → item-in.Post tt (k, tt) q (k, tt) → r ≡ q
 item-in-one k r q m n = same m n
+
+pub part-in-one : (k : ℕ) (r q : Listed) → part-in.Post tt (k, tt) r (k, tt) → part-in.Post tt (k, tt) q (k, tt) → r ≡ q
+part-in-one k r q m n = same m n
 
 pub name-of-one : (x : Item) (r q : List ℕ) → name-of.Post tt (x, tt) r (x, tt) → name-of.Post tt (x, tt) q (x, tt) → r ≡ q
 name-of-one x r q m n = same m n

@@ -3,7 +3,7 @@
 use mathlib.Core.Path.{_≡_, refl, sym, ap, _∙_}
 use mathlib.Core.Bool.{Bool, true, false, true≢false, _||_, not}
 use mathlib.Core.List.{List, [], _∷_, _++_}
-use Prim.Native.Nat.{ℕ, zero, suc, _+_, _*_, _<_}
+use Prim.Native.Nat.{ℕ, zero, suc, _+_, _*_, _≤_, _<_}
 use native.Mathlib.Nat.{not-suc-le-zero, le-of-suc-le-suc}
 use native.Mathlib.Omega.{arith}
 use lib.Dec.{T, eqb}
@@ -12,6 +12,15 @@ use lib.Seq.{take-at, drop-at, drop-drop}
 use borrow.Author.Tests.{eqb-true, eq-eqb}
 use Rattle.base.proofs.Cases.{split}
 use Rattle.base.proofs.Table.{both, allBelow, below, is-true}
+
+-- what the last arm of a `match` knows: the number is none of the first n
+abbrev pub None : ℕ → ℕ → Type 0
+None k zero = Unit
+None k (suc n) = None k n × (k ≡ n → ⊥)
+
+pub none : (k n : ℕ) → None k n → n ≤ k
+none k zero t = omega arith
+none k (suc n) t = let h = none k n (t .0) in let q = t .1 in omega arith
 
 -- are two texts the same?
 abbrev alike : List ℕ → List ℕ → Bool

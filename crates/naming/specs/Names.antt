@@ -3,7 +3,7 @@
 use mathlib.Core.List.{List}
 use Prim.Native.Nat.{ℕ}
 use lib.Dec.{ltb}
-use lib.ListN.{getD}
+use lib.ListN.{length, getD}
 use Rattle.base.specs.Ascii.{ascii}
 use Rattle.base.specs.Pick.{pick}
 use Rattle.block.specs.declared.Part.{Part}
@@ -12,7 +12,10 @@ use Rattle.frame.specs.declared.Item.{Item}
 use Rattle.frame.specs.declared.Item.the-variants.{Parallel, Multiplexer1, Multiplexer2, Multiplexer3, ErrorCode, DirectionStop, DirectionStart, EnergyStop, EnergyStart, LastInvalidCode, IelEnable, ReducedCounter, Bias, Relay, Ground, StopStepping, StopLimit, StopLevel, Flap1, Flap2, Flap3, IelClock, LastCheck, InvalidCount, HeadMask, LongCounter, FreeTime}
 use Rattle.frame.specs.Items.{items, allItems}
 use Rattle.naming.specs.declared.InRow.{InRow}
-use Rattle.naming.specs.declared.InRow.the-variants.{Nothing, Is}
+use Rattle.naming.specs.declared.InRow.the-variants as in-row
+use Rattle.naming.specs.declared.Listed.{Listed}
+use Rattle.naming.specs.declared.Listed.the-variants.{Nothing, Is}
+use Rattle.block.specs.Tables.{parts}
 
 abbrev pub nameOf : Item → List ℕ
 nameOf Parallel = ascii "Parallel        "
@@ -45,7 +48,7 @@ nameOf FreeTime = ascii "FreeTime        "
 
 -- the item in a row; none past the last
 abbrev pub itemIn : ℕ → InRow
-itemIn k = pick (ltb k items) (Is (getD allItems k Parallel)) Nothing
+itemIn k = pick (ltb k items) (in-row.Is (getD allItems k Parallel)) in-row.Nothing
 
 -- as G's position tables have it
 abbrev pub partName : Part → List ℕ
@@ -68,3 +71,7 @@ partName Descriptor2 = ascii "descriptor2     "
 partName EPad = ascii "E-PAD           "
 partName E3dd = ascii "E-3DD           "
 partName M = ascii "m               "
+
+-- the part of a number, in the order of NM's table; none past the last
+abbrev pub partIn : ℕ → Listed
+partIn k = pick (ltb k (length parts)) (Is (getD parts k Marker)) Nothing

@@ -1,9 +1,9 @@
-// The items of a frame by row and by name, and the parts of a data block by name, for those who list them or ask for one.
+// The items of a frame by row and by name, and the parts of a data block by number and by name, for those who list them or ask for one.
 // Keeps 01 "The 40-byte frame", its items in the order of their rows, and 01 "Data blocks", the parts of G's position tables.
 ghost use mathlib.Core.Path.{_≡_};
 ghost use Prim.Native.Nat.{_+_, _*_, _≤_};
 ghost use lib.ListN.{length, take, drop};
-ghost use Rattle.naming.specs.Names.{nameOf, itemIn, partName};
+ghost use Rattle.naming.specs.Names.{nameOf, itemIn, partName, partIn};
 use block::Part;
 use frame::Item;
 
@@ -48,6 +48,42 @@ pub fn item_in(row: usize) -> InRow
         25 => InRow::Is(Item::LongCounter),
         26 => InRow::Is(Item::FreeTime),
         _ => InRow::Nothing,
+    }
+}
+
+// How many parts G's position tables have between them.
+pub const PARTS: usize = 19;
+
+// The part of a number, in the order of NM's table, or none past the last.
+pub enum Listed {
+    Nothing,
+    Is(Part),
+}
+
+pub fn part_in(n: usize) -> Listed
+    ensures { λ r. ⌜ r ≡ partIn n ⌝ }
+{
+    match n {
+        0 => Listed::Is(Part::Marker),
+        1 => Listed::Is(Part::Index),
+        2 => Listed::Is(Part::Descriptor1),
+        3 => Listed::Is(Part::Calibration),
+        4 => Listed::Is(Part::MSigns),
+        5 => Listed::Is(Part::Sgl0),
+        6 => Listed::Is(Part::DirectEvents),
+        7 => Listed::Is(Part::HSpct),
+        8 => Listed::Is(Part::ISpct),
+        9 => Listed::Is(Part::Sgl1),
+        10 => Listed::Is(Part::Sgl2),
+        11 => Listed::Is(Part::Sgl3),
+        12 => Listed::Is(Part::IPad),
+        13 => Listed::Is(Part::I3dd),
+        14 => Listed::Is(Part::Mtrx),
+        15 => Listed::Is(Part::Descriptor2),
+        16 => Listed::Is(Part::EPad),
+        17 => Listed::Is(Part::E3dd),
+        18 => Listed::Is(Part::M),
+        _ => Listed::Nothing,
     }
 }
 

@@ -4,9 +4,9 @@ use super::blocks;
 use super::print;
 use block::Kind;
 use block::Layout;
-use block::Listed;
 use block::Located;
 use block::Part;
+use naming::Listed;
 
 fn is_hidden(b: &[u8], part: Part) -> bool {
     match block::locate(b, part) {
@@ -17,7 +17,7 @@ fn is_hidden(b: &[u8], part: Part) -> bool {
 
 // The name of a part after a blank, if it is hidden; and whether it is.
 fn say_if(b: &[u8], n: usize) -> bool {
-    if let Listed::Is(part) = block::part_at(n) {
+    if let Listed::Is(part) = naming::part_in(n) {
         if is_hidden(b, part) {
             print::text(b" ");
             print::part(part);
@@ -32,7 +32,7 @@ fn say_hidden(b: &[u8]) {
     print::text(b" hides");
     let mut none = true;
     let mut n: usize = 0;
-    while n < block::PARTS {
+    while n < naming::PARTS {
         if say_if(b, n) {
             none = false;
         }

@@ -3,9 +3,9 @@
 use super::blocks;
 use super::print;
 use block::Kind;
-use block::Listed;
 use block::Located;
 use block::Part;
+use naming::Listed;
 
 // The first byte and the last.
 fn ends(bytes: &[u8]) {
@@ -32,8 +32,8 @@ fn show(b: &[u8], part: Part) {
 fn list(name: &[u8], kind: Kind, d1: u8, d2: u8) {
     let b = blocks::made(kind, d1, d2);
     let mut n: usize = 0;
-    while n < block::PARTS {
-        if let Listed::Is(part) = block::part_at(n) {
+    while n < naming::PARTS {
+        if let Listed::Is(part) = naming::part_in(n) {
             print::text(name);
             print::part(part);
             show(blocks::first(&b, block::length_of(kind)), part);

@@ -1,22 +1,12 @@
 -- `naming::item_in` meets its contract: each arm has the item of its own row, and past them there is none.
 -- Assumes nothing.
-use mathlib.Core.Path.{_≡_, sym, ap}
-use Prim.Native.Nat.{ℕ, zero, suc, _≤_}
-use native.Mathlib.Omega.{arith}
+use mathlib.Core.Path.{sym, ap}
 use borrow.Author.Tests.{le-ltb}
 use Rattle.frame.specs.Items.{items}
 use Rattle.naming.specs.Names.{itemIn}
+use Rattle.naming.proofs.Texts.{none}
 use Rattle.naming.proofs.item_in.Statement.{statement}
 use Rattle.naming.proofs.item_in.Tie as tie
-
--- what the last arm of a `match` knows: the number is none of the first n
-abbrev None : ℕ → ℕ → Type 0
-None k zero = Unit
-None k (suc n) = None k n × (k ≡ n → ⊥)
-
-none : (k n : ℕ) → None k n → n ≤ k
-none k zero t = omega arith
-none k (suc n) t = let h = none k n (t .0) in let q = t .1 in omega arith
 
 pub item-in-spec : {M : Type 1} → statement M
 item-in-spec =
