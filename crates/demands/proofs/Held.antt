@@ -6,10 +6,11 @@ use mathlib.Core.List.{List, [], _∷_}
 use Prim.Native.Nat.{ℕ, _<_}
 use native.Mathlib.Omega.{arith}
 use lib.Dec.{T, eqb, eqb→eq}
+use lib.ListN.{getD}
 use borrow.Author.Tests.{eqb-true, eqb-false, eq-eqb, ne-eqb}
 use Rattle.base.specs.Pick.{pick}
 use Rattle.base.proofs.Cases.{split}
-use Rattle.base.proofs.Table.{allBelow, below}
+use Rattle.base.proofs.Table.{both, both-left, both-right, allBelow, below}
 use Rattle.supply.specs.Rules.{relayOf, targeted, limited, switched}
 use Rattle.crc.specs.Crc.{shift, crcFrom, crcOf}
 use Rattle.judge.specs.Commands.{carried, modeCmd, singleOf, countedOf, blockOf}
@@ -29,31 +30,43 @@ use Rattle.demands.specs.Held.{doing, Row, table, starts, says, builds, 
 abbrev held : Rig → ℕ → ℕ
 held r k = heldAt (heldOf r) k
 
--- a row of which every item and every byte is computed
-abbrev Computed : Row → Type 0
-Computed r = T (allBelow (λ k. eqb (held (doing ours startRig (r .steps)) k) (says r k)) items) × Bytes proved (doing ours startRig (r .steps)) (r .bytes)
+-- tests that compute to true where a row's items and bytes are as it says
+abbrev testBytes : Rig → List (ℕ × (ℕ × ℕ)) → Bool
+testBytes r [] = true
+testBytes r (x ∷ xs) = both (eqb (getD (proved .frame (builds ours (x .0) r)) (x .1 .0) 0) (x .1 .1)) (testBytes r xs)
 
-true-row : (r : Row) → Computed r → True proved held r
-true-row r t =
-    record {
-      items = λ item. eqb→eq _ _ (below (λ k. eqb (held (doing ours startRig (r .steps)) k) (says r k)) items (t .0) (rowOf item) (row-lt item));
-      frames = t .1;
-    }
+abbrev testItems : Row → Bool
+testItems r = allBelow (λ k. eqb (held (doing ours startRig (r .steps)) k) (says r k)) items
 
-abbrev AllComputed : List Row → Type 0
-AllComputed [] = Unit {0}
-AllComputed (r ∷ rs) = Computed r × AllComputed rs
+abbrev test : List Row → Bool
+test [] = true
+test (r ∷ rs) = both (testItems r) (both (testBytes (doing ours startRig (r .steps)) (r .bytes)) (test rs))
 
-true-rows : (rs : List Row) → AllComputed rs → Every proved held rs
-true-rows [] t = tt
-true-rows (r ∷ rs) t = (true-row r (t .0), true-rows rs (t .1))
+bytes-of : (r : Rig) (xs : List (ℕ × (ℕ × ℕ))) → T (testBytes r xs) → Bytes proved r xs
+bytes-of r [] t = tt
+bytes-of r (x ∷ xs) t =
+    let b = eqb (getD (proved .frame (builds ours (x .0) r)) (x .1 .0) 0) (x .1 .1) in
+    (eqb→eq _ _ (both-left b (testBytes r xs) t), bytes-of r xs (both-right b (testBytes r xs) t))
 
-computed : AllComputed table
+rows-of : (rs : List Row) → T (test rs) → Every proved held rs
+rows-of [] t = tt
+rows-of (r ∷ rs) t =
+    let rig = doing ours startRig (r .steps) in
+    let rest = both (testBytes rig (r .bytes)) (test rs) in
+    let q = both-right (testItems r) rest t in (
+      record {
+        items = λ item. eqb→eq _ _ (below (λ k. eqb (held rig k) (says r k)) items (both-left (testItems r) rest t) (rowOf item) (row-lt item));
+        frames = bytes-of rig (r .bytes) (both-left (testBytes rig (r .bytes)) (test rs) q);
+      },
+      rows-of rs (both-right (testBytes rig (r .bytes)) (test rs) q),
+    )
+
+computed : T (test table)
 unfolding doing builds takeOf pendingOf droppedOf closedOf verdictOf freshOf headOf settledOf refusedOf kindOf blockOf countedOf singleOf modeCmd carried relayOf targeted limited switched crcOf crcFrom shift setOf frameOf muxOf groundAt quarterOf
-computed = ((tt, (refl, tt)), ((tt, (refl, tt)), ((tt, (refl, tt)), ((tt, (refl, tt)), ((tt, (refl, tt)), ((tt, (refl, tt)), ((tt, (refl, tt)), ((tt, (refl, (refl, tt))), ((tt, (refl, (refl, tt))), ((tt, (refl, (refl, tt))), ((tt, (refl, (refl, tt))), ((tt, (refl, (refl, tt))), ((tt, (refl, (refl, (refl, tt)))), ((tt, (refl, tt)), ((tt, (refl, tt)), ((tt, (refl, tt)), ((tt, (refl, (refl, tt))), ((tt, (refl, tt)), ((tt, (refl, tt)), ((tt, (refl, tt)), ((tt, (refl, (refl, (refl, (refl, tt))))), ((tt, (refl, (refl, tt))), tt))))))))))))))))))))))
+computed = tt
 
 pub held-table : HeldTable proved held
-held-table = true-rows table computed
+held-table = rows-of table computed
 
 is-true : (b : Bool) → T b → b ≡ true
 is-true true t = refl

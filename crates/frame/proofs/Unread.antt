@@ -11,7 +11,7 @@ use lib.ListN.{getD}
 use borrow.Author.Tests.{eq-eqb, eqb-true}
 use Rattle.frame.specs.declared.Reading.the-variants.{Value}
 use Rattle.frame.specs.Read.{periodOf, phaseOf, isPlain, carries, indexOf, fieldOf, readOf}
-use Rattle.frame.specs.Laws.{byte39, spreads, mask39, masks, Alike}
+use Rattle.frame.specs.Laws.{byte39, spreads, mask37, mask39, masks, Alike}
 use Rattle.frame.proofs.Each.{_&_, end}
 use Rattle.frame.proofs.Rows.{each-plain, spread}
 use Rattle.frame.proofs.Tells.{pick-same}
@@ -71,9 +71,9 @@ module _ (f g : List ℕ) (a : Alike f g) where
       & (λ r e. let q = byte-same 36 refl in omega arith)
       & (λ r e. let p = part 2 0x40 6 1 refl refl in omega arith)
       & (λ r e. let q = byte-same 38 (rw e) in omega arith)
-      & (λ r e. let p = part 37 0x10 4 1 (rw e) refl in omega arith)
-      & (λ r e. let p = part 37 0xF0 4 4 (rw e) refl in omega arith)
-      & (λ r e. let p = part 37 0xF0 4 4 (rw e) refl in omega arith)
+      & (λ r e. let p = part 37 (mask37 0) 4 1 (rw e) refl in omega arith)
+      & (λ r e. let p = part 37 (mask37 2) 4 4 (rw e) refl in omega arith)
+      & (λ r e. let p = part 37 (mask37 3) 4 4 (rw e) refl in omega arith)
       & (λ r e. let p = part 39 0xF0 4 1 (at 12 e) refl in omega arith)
       & (λ r e. let p = part 39 0xF0 5 1 (at 12 e) refl in omega arith)
       & (λ r e. let p = part 39 0xF0 6 1 (at 12 e) refl in omega arith)

@@ -15,7 +15,7 @@ use Rattle.frame.specs.declared.Item.the-variants.{LastInvalidCode, Bias
 use Rattle.frame.specs.Items.{rowOf}
 use Rattle.frame.specs.Write.{quarterOf, groundAt, muxOf, frameOf}
 use Rattle.frame.specs.Read.{rows, isPlain}
-use Rattle.frame.specs.Laws.{mask37, mask38, mask39, masks, taken, Fits}
+use Rattle.frame.specs.Laws.{quarterMask, mask37, mask38, mask39, masks, taken, Fits}
 use Rattle.frame.proofs.Each.{each, _&_, end}
 
 -- x has no bit but those of the mask m
@@ -69,7 +69,7 @@ module _ (h : Held) (i l : ℕ) (fits : Fits h) where
   quarter-at : Under (mask37 (i % 32)) (quarterOf h (i % 4))
   quarter-at =
       let e : i % 4 % 4 ≡ i % 32 % 4 = omega arith in
-      let m : mask37 (i % 4) ≡ mask37 (i % 32) = ap (λ (j : ℕ). getD (0x10 ∷ 0x00 ∷ 0xF0 ∷ 0xF0 ∷ []) j 0) e in
+      let m : mask37 (i % 4) ≡ mask37 (i % 32) = ap quarterMask e in
       subst (λ (x : ℕ). Under x (quarterOf h (i % 4))) m (quarter (i % 4) (omega arith))
 
   ground-at : Under (mask38 (i % 32)) (groundAt h (i % 8))

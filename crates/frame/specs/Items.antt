@@ -3,17 +3,13 @@
 use mathlib.Core.List.{List, [], _∷_}
 use Prim.Native.Nat.{ℕ}
 use lib.Dec.{eqb}
-use lib.ListN.{getD}
+use lib.ListN.{length, getD}
 use Rattle.base.specs.Pick.{pick}
 use Rattle.frame.specs.declared.Held.{Held}
 use Rattle.frame.specs.declared.Item.{Item}
 use Rattle.frame.specs.declared.Item.the-variants.{Parallel, Multiplexer1, Multiplexer2, Multiplexer3, ErrorCode, DirectionStop, DirectionStart, EnergyStop, EnergyStart, LastInvalidCode, IelEnable, ReducedCounter, Bias, Relay, Ground, StopStepping, StopLimit, StopLevel, Flap1, Flap2, Flap3, IelClock, LastCheck, InvalidCount, HeadMask, LongCounter, FreeTime}
 use Rattle.frame.specs.declared.Refusal.{Refusal}
 use Rattle.frame.specs.declared.Refusal.the-variants.{NotForty, NoRoom}
-
--- how many there are
-abbrev pub items : ℕ
-items = 27
 
 -- the row of an item, in `heldAt` and in the table `rows`
 abbrev pub rowOf : Item → ℕ
@@ -51,6 +47,10 @@ allItems =
     Parallel ∷ Multiplexer1 ∷ Multiplexer2 ∷ Multiplexer3 ∷ ErrorCode ∷ DirectionStop ∷ DirectionStart ∷ EnergyStop ∷ EnergyStart
     ∷ LastInvalidCode ∷ IelEnable ∷ ReducedCounter ∷ Bias ∷ Relay ∷ Ground ∷ StopStepping ∷ StopLimit ∷ StopLevel
     ∷ Flap1 ∷ Flap2 ∷ Flap3 ∷ IelClock ∷ LastCheck ∷ InvalidCount ∷ HeadMask ∷ LongCounter ∷ FreeTime ∷ []
+
+-- how many there are
+abbrev pub items : ℕ
+items = length allItems
 
 -- the value held of the item in row k; 0 past the last row
 abbrev pub heldAt : Held → ℕ → ℕ
