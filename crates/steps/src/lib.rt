@@ -1,0 +1,79 @@
+// What is done to a bench step by step, each with its line: words sent, and spins.
+// Keeps 01 "Command words": what the sender of a word hears.
+use bench::Bench;
+use rig::Answer;
+use rig::Reply;
+
+fn say_answer(answer: Answer) {
+    match answer {
+        Answer::Accepted => printing::text(b" accepted"),
+        Answer::Waiting => printing::text(b" waiting"),
+        Answer::Refused(why) => {
+            printing::text(b" refused ");
+            printing::byte(judge::number(why));
+        }
+    }
+}
+
+fn say(reply: Reply) {
+    match reply {
+        Reply::Plain(answer) => say_answer(answer),
+        Reply::Swallowed => printing::text(b" dropped 03h"),
+        Reply::Dropped(answer) => {
+            printing::text(b" dropped 03h, then");
+            say_answer(answer);
+        }
+    }
+}
+
+fn say_word(word: u16, reply: Reply) {
+    printing::text(b"word ");
+    printing::word(word);
+    say(reply);
+    printing::end();
+}
+
+// A word sent, with its line.
+pub fn send(bench: Bench, word: u16) -> Bench {
+    let worded = bench::word(bench, word);
+    let reply = worded.reply;
+    say_word(word, reply);
+    worded.bench
+}
+
+// Words sent in their order.
+pub fn send_all(bench: Bench, words: &[u16]) -> Bench {
+    let mut b = bench;
+    let mut i: usize = 0;
+    while i < words.len() {
+        b = send(b, words[i]);
+        i += 1;
+    }
+    b
+}
+
+// The four words of a block that sets two bytes.
+pub fn block(bench: Bench, head: u16, first: u16, second: u16, end: u16) -> Bench {
+    send_all(bench, &[head, first, second, end])
+}
+
+fn say_spins(times: u32) {
+    if times == 1 {
+        printing::text(b"one spin\n");
+    } else {
+        printing::number(times as u64);
+        printing::text(b" spins\n");
+    }
+}
+
+// So many spins.
+pub fn spins(bench: Bench, times: u32) -> Bench {
+    say_spins(times);
+    let mut b = bench;
+    let mut i: u32 = 0;
+    while i < times {
+        b = bench::spin(b);
+        i += 1;
+    }
+    b
+}

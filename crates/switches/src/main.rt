@@ -1,0 +1,76 @@
+// Each switch and each small setting by itself on a fresh rig: after 35 whole slots its own items have moved, and no other; held to the file `stdout`.
+// Keeps 01 "Command words" and "Spins and power": what each moves; "The 40-byte frame": each item has bits of its own.
+use bench::Bench;
+use desk::Desk;
+use power::PanelSetting;
+
+// What the desk shows after 35 slots, which bring every item.
+fn heard(bench: Bench) -> Desk {
+    let mut b = bench;
+    let mut i: u32 = 0;
+    while i < 35 {
+        let mut f = [0u8; 40];
+        b = slots::arrives(b, &mut f, 0).bench;
+        i += 1;
+    }
+    b.desk
+}
+
+// What was set, and what the desk then shows that it does not show of a fresh rig.
+fn say_moved(name: &[u8], bench: Bench) {
+    printing::text(name);
+    printing::text(b" moves");
+    showing::moved(heard(bench::fresh()), heard(bench));
+    printing::end();
+}
+
+fn single(name: &[u8], word: u16) {
+    say_moved(name, steps::send(bench::fresh(), word));
+}
+
+fn block(name: &[u8], head: u16, first: u16, second: u16, end: u16) {
+    say_moved(name, steps::block(bench::fresh(), head, first, second, end));
+}
+
+fn set(name: &[u8], setting: PanelSetting) {
+    say_moved(name, bench::set(bench::fresh(), setting));
+}
+
+fn singles() {
+    single(b"relay on", 0x0802);
+    single(b"parallel", 0x2B01);
+    single(b"stepping", 0x2D01);
+    single(b"limit 10", 0x290A);
+    single(b"IEL clock", 0x0C01);
+    single(b"IEL enable", 0x0C02);
+    single(b"head mask 5", 0x2605);
+    single(b"a refused word", 0x0800);
+}
+
+// A block also moves the last check.
+fn blocks() {
+    block(b"multiplexer 1", 0x6002, 0xA001, 0xA000, 0xE015);
+    block(b"multiplexer 2", 0x6002, 0xA008, 0xA000, 0xE0A8);
+    block(b"multiplexer 3", 0x6002, 0xA040, 0xA000, 0xE05B);
+    block(b"direction window 3 to 19", 0x6302, 0xA303, 0xA313, 0xE346);
+    block(b"energy window 5 to 9", 0x6402, 0xA405, 0xA409, 0xE47E);
+}
+
+fn settings() {
+    set(b"flap 1", PanelSetting::Flap1(true));
+    set(b"flap 2", PanelSetting::Flap2(true));
+    set(b"flap 3", PanelSetting::Flap3(true));
+    set(b"bias 9Ah", PanelSetting::Bias(0x9A));
+    set(b"ground 70h", PanelSetting::Ground(0x70));
+    set(b"free time 1234h", PanelSetting::FreeTime(0x1234));
+}
+
+fn main() {
+    printing::text(b"each setting alone, seen after 35 whole slots; first a fresh rig\n");
+    let fresh = heard(bench::fresh());
+    showing::all(fresh);
+    singles();
+    blocks();
+    settings();
+    say_moved(b"three spins", steps::spins(bench::fresh(), 3));
+}
