@@ -1,5 +1,8 @@
 // What is done to a bench step by step, each with its line: words sent, and spins.
 // Keeps 01 "Command words": what the sender of a word hears.
+ghost use mathlib.Core.Path.{_≡_};
+ghost use mathlib.Core.List.{[], _∷_};
+ghost use Rattle.steps.specs.Steps.{sentOne, sentAll, spunTimes};
 use bench::Bench;
 use rig::Answer;
 use rig::Reply;
@@ -34,7 +37,9 @@ fn say_word(word: u16, reply: Reply) {
 }
 
 // A word sent, with its line.
-pub fn send(bench: Bench, word: u16) -> Bench {
+pub fn send(bench: Bench, word: u16) -> Bench
+    ensures { λ r. ⌜ r ≡ sentOne bench word ⌝ }
+{
     let worded = bench::word(bench, word);
     let reply = worded.reply;
     say_word(word, reply);
@@ -42,7 +47,9 @@ pub fn send(bench: Bench, word: u16) -> Bench {
 }
 
 // Words sent in their order.
-pub fn send_all(bench: Bench, words: &[u16]) -> Bench {
+pub fn send_all(bench: Bench, words: &[u16]) -> Bench
+    ensures { λ r. ⌜ r ≡ sentAll bench (now (words .entry)) ⌝ }
+{
     let mut b = bench;
     let mut i: usize = 0;
     while i < words.len() {
@@ -53,7 +60,9 @@ pub fn send_all(bench: Bench, words: &[u16]) -> Bench {
 }
 
 // The four words of a block that sets two bytes.
-pub fn block(bench: Bench, head: u16, first: u16, second: u16, end: u16) -> Bench {
+pub fn block(bench: Bench, head: u16, first: u16, second: u16, end: u16) -> Bench
+    ensures { λ r. ⌜ r ≡ sentAll bench (head ∷ first ∷ second ∷ end ∷ []) ⌝ }
+{
     send_all(bench, &[head, first, second, end])
 }
 
@@ -67,7 +76,9 @@ fn say_spins(times: u32) {
 }
 
 // So many spins.
-pub fn spins(bench: Bench, times: u32) -> Bench {
+pub fn spins(bench: Bench, times: u32) -> Bench
+    ensures { λ r. ⌜ r ≡ spunTimes bench times ⌝ }
+{
     say_spins(times);
     let mut b = bench;
     let mut i: u32 = 0;

@@ -1,0 +1,2 @@
+-- What a bench is after some steps.
+pub mod Steps
