@@ -1,18 +1,23 @@
 -- The cells after a slot, one by one.
 -- Assumes nothing.
 use mathlib.Core.Path.{_≡_, refl, sym, ap, _∙_}
+use mathlib.Core.Bool.{Bool}
 use mathlib.Core.List.{List, [], _∷_}
 use Prim.Native.Nat.{ℕ, zero, suc, _+_, _<_, _≤_}
 use native.Mathlib.Nat.{not-suc-le-zero, le-of-suc-le-suc, add-zero}
 use native.Mathlib.Omega.{arith}
-use lib.ListN.{length, getD}
-use borrow.Author.Tests.{le-ltb}
+use lib.Dec.{eqb, ltb}
+use lib.ListN.{length, getD, set, length-set}
+use lib.Seq.{getD-set-same, getD-set-other, ext-getD}
+use borrow.Author.Tests.{le-ltb, lt-ltb, eqb-true, eqb-false, ltb-true, ltb-false}
+use Rattle.base.specs.Pick.{pick}
+use Rattle.base.proofs.Cases.{split}
 use Rattle.base.specs.Counts.{ceiling}
 use Rattle.frame.specs.Items.{items}
 use Rattle.desk.specs.declared.Shown.{Shown}
 use Rattle.desk.specs.declared.Shown.the-variants.{Unknown, Known}
 use Rattle.desk.specs.declared.Cell.{Cell}
-use Rattle.desk.specs.Desk.{agedOf, latestOf, blank, cellOf, shownBy, cellAfter, cellsFrom, cellsAfter}
+use Rattle.desk.specs.Desk.{agedOf, latestOf, blank, cellOf, shownBy, cellAfter, cellsFrom, cellsAfter, nothing}
 
 -- within a list it is all one what stands beyond it
 pub within : (cs : List Cell) (k : ℕ) (a b : Cell) → k < length cs → getD cs k a ≡ getD cs k b
@@ -74,3 +79,52 @@ at-slot f cs k h t = ap shownBy (at-cell f cs k h) ∙ held _ (latest-fits (f k)
 pub one-way : (f : ℕ → Shown) (cs : List Cell) (k : ℕ) → k < items → Fits (f k)
     → getD (cellsAfter f cs) k blank ≡ cellOf (shownBy (getD (cellsAfter f cs) k blank))
 one-way f cs k h t = at-cell f cs k h ∙ sym (ap cellOf (at-slot f cs k h t))
+
+-- The cells of `old` of which the first k are a slot older.
+abbrev pub Aged : List Cell → ℕ → List Cell → Type 0
+Aged old k cs =
+    (length cs ≡ length old) × ((j : ℕ) → getD cs j blank ≡ pick (ltb j k) (cellAfter Unknown (getD old j blank)) (getD old j blank))
+
+pub aged-none : (old : List Cell) → Aged old 0 old
+aged-none old = (refl, λ j. rw (le-ltb j 0 (omega arith)))
+
+pub aged-next : (old : List Cell) (k : ℕ) (cs : List Cell) (d v : Cell) → k < length old → Aged old k cs → v ≡ cellAfter Unknown (getD cs k d)
+    → Aged old (k + 1) (set cs k v)
+aged-next old k cs d v h a e = (length-set cs k v ∙ a .0, rows)
+  where
+    in-it : k < length cs
+    in-it = rw (a .0) h
+
+    at-k : getD (set cs k v) k blank ≡ cellAfter Unknown (getD old k blank)
+    at-k =
+        getD-set-same cs k v blank in-it
+        ∙ e
+        ∙ ap (cellAfter Unknown) (within cs k d blank in-it ∙ a .1 k ∙ ap (λ (b : Bool). pick b (cellAfter Unknown (getD old k blank)) (getD old k blank)) (le-ltb k k (omega arith)))
+
+    rows : (j : ℕ) → getD (set cs k v) j blank ≡ pick (ltb j (k + 1)) (cellAfter Unknown (getD old j blank)) (getD old j blank)
+    rows j =
+        split (eqb j k) (λ t. let q : j ≡ k = eqb-true j k t in rw (q, lt-ltb k (k + 1) (omega arith)) at-k)
+        (λ f.
+        let n : j ≡ k → ⊥ = eqb-false j k f in
+        getD-set-other cs k j v blank n
+        ∙ a .1 j
+        ∙ split (ltb j k)
+        (λ t. let l : j < k = ltb-true j k t in rw (t, lt-ltb j (k + 1) (omega arith)))
+        (λ t. let l : k ≤ j = ltb-false j k t in rw (t, le-ltb j (k + 1) (omega (arith, n)))))
+
+length-from : (g : ℕ → Cell) (k n : ℕ) → length (cellsFrom g k n) ≡ n
+length-from g k zero = refl
+length-from g k (suc n) = ap suc (length-from g (suc k) n)
+
+length-after : (f : ℕ → Shown) (cs : List Cell) → length (cellsAfter f cs) ≡ items
+unfolding cellsAfter
+length-after f cs = length-from (λ k. cellAfter (f k) (getD cs k blank)) 0 items
+
+pub aged-all : (old : List Cell) (k : ℕ) (cs : List Cell) → length old ≡ items → items ≤ k → Aged old k cs → cs ≡ cellsAfter nothing old
+aged-all old k cs l h a =
+    ext-getD blank cs (cellsAfter nothing old) (a .0 ∙ l ∙ sym (length-after nothing old))
+    (λ i t.
+    let b : i < items = rw (sym (a .0 ∙ l)) t in
+    a .1 i
+    ∙ ap (λ (b : Bool). pick b (cellAfter Unknown (getD old i blank)) (getD old i blank)) (lt-ltb i k (omega arith))
+    ∙ sym (at-cell nothing old i b))

@@ -2,7 +2,7 @@
 -- Assumes nothing.
 use mathlib.Core.Path.{_≡_, refl}
 use mathlib.Core.Bool.{true, false}
-use mathlib.Core.List.{List, []}
+use mathlib.Core.List.{List}
 use Prim.Native.Nat.{ℕ, _%_, _<_, _≤_}
 use native.Mathlib.Omega.{arith}
 use lib.Dec.{ltb, ltb→lt}
@@ -15,10 +15,9 @@ use Rattle.frame.specs.Items.{items}
 use Rattle.frame.specs.Read.{indexOf, carries, periodOf, phaseOf, bornOf, isPlain, readOf}
 use Rattle.frame.proofs.Rows.{spread-rows}
 use Rattle.desk.specs.declared.Half.{Half}
-use Rattle.desk.specs.declared.Shown.the-variants.{Unknown}
 use Rattle.desk.specs.declared.SoFar.{SoFar}
 use Rattle.desk.specs.declared.SoFar.the-variants.{None, Bytes}
-use Rattle.desk.specs.Desk.{bornAt, grownOf, plainOf, spreadOf, toldBy, readingOf, nothing, halfAt, halfAfter}
+use Rattle.desk.specs.Desk.{bornAt, grownOf, plainOf, spreadOf, toldBy, readingOf, halfAt, halfAfter}
 use Rattle.desk.proofs.Cells.{Fits}
 
 -- a plain item is what `frame` reads
@@ -42,13 +41,6 @@ pub reading-is : (half : Half) (f : List ℕ) (i b : ℕ) → length f ≡ 40 �
     → (k : ℕ) → k < items → toldBy half f i b k ≡ readingOf half f k
 reading-is half f i b n p q k h =
     split (isPlain k) (λ t. rw t (plain-is half f k n t)) (λ t. rw t (spread-is half f i b k p q (once k h t) t))
-
--- where no bytes came, nothing is told
-pub none-is : (half : Half) (b k : ℕ) → k < items → toldBy half [] 32 b k ≡ nothing k
-unfolding readOf
-none-is half b k h =
-    split (isPlain k) (λ t. rw t)
-    (λ t. rw t (spread-rows (λ k. spreadOf half 32 b (phaseOf k) (frames (bornOf k)) ≡ Unknown) refl refl k h t))
 
 -- what is half read, from the index i and byte 39 b
 pub half-is : (half : Half) (f : List ℕ) (i b : ℕ) → i ≡ indexOf f → b ≡ getD f 39 0 → halfAt half i b ≡ halfAfter half f

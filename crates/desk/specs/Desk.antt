@@ -69,7 +69,7 @@ readingOf half f k =
     (pick (isPlain k) (Known (fieldOf f k) (frames 0)) (bornAt (frames (bornOf k)) (grownOf half (indexOf f) (getD f 39 0))))
     Unknown
 
--- the same, of bytes that came with index i and byte 39 b: a frame's own, or with no bytes at all those of a miss
+-- the same, of bytes that came with index i and byte 39 b, item by item as the code asks for them
 abbrev pub toldBy : Half → List ℕ → ℕ → ℕ → ℕ → Shown
 toldBy half f i b k = pick (isPlain k) (plainOf (readOf f k)) (spreadOf half i b (phaseOf k) (frames (bornOf k)))
 

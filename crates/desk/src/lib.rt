@@ -5,7 +5,7 @@ ghost use Prim.Native.Nat.{_<_};
 ghost use lib.ListN.{length, getD};
 ghost use Rattle.frame.specs.Items.{rowOf};
 ghost use Rattle.frame.specs.Read.{indexOf, readOf};
-ghost use Rattle.desk.specs.Desk.{blank, agedOf, latestOf, begins, grownOf, bornAt, plainOf, spreadOf, toldBy, keptAt, partly, halfAt, shownBy, cellOf, cellAfter, cellsAfter, freshDesk, shows, missedOf, heardOf, slotOf};
+ghost use Rattle.desk.specs.Desk.{blank, agedOf, latestOf, begins, grownOf, bornAt, plainOf, spreadOf, toldBy, keptAt, partly, halfAt, shownBy, cellOf, cellAfter, cellsAfter, nothing, freshDesk, shows, missedOf, heardOf, slotOf};
 use base::Frames;
 use frame::Arrived;
 use frame::ITEMS;
@@ -247,7 +247,7 @@ fn spread_cell(
     )
 }
 
-// The cells after bytes that came, row by row: each is written once, and no table is built.
+// The cells after a whole frame, row by row: each is written once, and no table is built.
 fn cells_after(old: [Cell; ITEMS], frame: &[u8], half: Half, i: u8, b: u8) -> [Cell; ITEMS]
     ensures { λ r. ⌜ r ≡ cellsAfter (toldBy half (now (frame .entry)) i b) old ⌝ }
 {
@@ -282,14 +282,26 @@ fn cells_after(old: [Cell; ITEMS], frame: &[u8], half: Half, i: u8, b: u8) -> [C
     ]
 }
 
-// A slot marked missed: no bytes came, and no index.
+// The cells after a miss: each is a slot older.
+fn older(old: [Cell; ITEMS]) -> [Cell; ITEMS]
+    ensures { λ r. ⌜ r ≡ cellsAfter nothing old ⌝ }
+{
+    let mut cells = old;
+    let mut k: usize = 0;
+    while k < ITEMS {
+        cells[k] = next(Shown::Unknown, cells[k]);
+        k += 1;
+    }
+    cells
+}
+
+// A slot marked missed: nothing is half read.
 pub fn missed(desk: Desk) -> Desk
     ensures { λ r. ⌜ r ≡ missedOf desk ⌝ }
 {
     let half = Half::Nothing;
     let old = desk.cells;
-    let bytes = [0u8; 1];
-    let cells = cells_after(old, &bytes[..0], half, 32, 0);
+    let cells = older(old);
     Desk { cells, half }
 }
 
