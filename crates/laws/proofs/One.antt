@@ -1,4 +1,4 @@
--- The laws of the rows and of the replies leave one function of rigs and words (specs/Rows, OneRig): by the word's kind and code.
+-- The laws of the rows and of the replies leave one function of rigs and words (specs/Rows, OneTake): by the word's kind and code.
 -- Assumes nothing.
 use Prim.Native.Nat.{ℕ, _/_, _%_, _<_}
 use mathlib.Core.Path.{_≡_, refl, ap, sym, _∙_}
