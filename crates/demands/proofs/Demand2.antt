@@ -14,7 +14,7 @@ use Rattle.frame.specs.Items.{heldAt}
 use Rattle.frame.specs.Read.{isPlain, carries, readOf}
 use Rattle.frame.proofs.Laws.{laws as frame-laws}
 use Rattle.sending.specs.Sending.{heldOf, nextLatch, nextFrame}
-use Rattle.laws.specs.Runs.{Happening, ours, reached}
+use Rattle.laws.specs.Runs.{Happening, ours, rigReached}
 use Rattle.laws.proofs.Rows.{row-laws}
 use Rattle.laws.proofs.Blocks.{block-laws}
 use Rattle.laws.proofs.Parts.{parts}
@@ -29,10 +29,10 @@ use Rattle.demands.proofs.Held.{held-table, settles}
 use Rattle.demands.proofs.AnyDesk.{slot-laws}
 
 -- what a frame carries reads back modulo its width, and fits it
-shows : (es : List Happening) (k : ℕ) → isPlain k ≡ true → carries k (reached ours es .sending .next) ≡ true
-    → readOf (nextFrame (reached ours es)) k ≡ Value (heldAt (heldOf (reached ours es)) k)
+shows : (es : List Happening) (k : ℕ) → isPlain k ≡ true → carries k (rigReached ours es .sending .next) ≡ true
+    → readOf (nextFrame (rigReached ours es)) k ≡ Value (heldAt (heldOf (rigReached ours es)) k)
 shows es k l e =
-    let r = reached ours es in
+    let r = rigReached ours es in
     frame-laws .back (heldOf r) (r .sending .next) (nextLatch r) k l e ∙ ap Value (mod-eq-of-lt (run-laws .widths es k l))
 
 -- ones in 8004h: two, so that it is good

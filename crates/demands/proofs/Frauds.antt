@@ -55,7 +55,7 @@ not-alike take all d =
 
 -- one refusal, and the made-up count is 0
 not-uncounted : Demand2For (rigOf uncounted) → ⊥
-unfolding ran.run ran.ledger takeOf freshOf settledOf refusedOf kindOf
+unfolding ran.rigAfter ran.ledger takeOf freshOf settledOf refusedOf kindOf
 not-uncounted d =
     let e : _≡_ {A = ℕ} 0 1 = d .runs .count (ran.word 0x8000 (omega arith) ∷ []) in
     omega arith

@@ -25,7 +25,7 @@ use Rattle.power.specs.Power.{setOf}
 use Rattle.sending.specs.Sending.{heldOf}
 use Rattle.laws.specs.Runs.{ours}
 use Rattle.demands.specs.Outfit.{Outfit, proved}
-use Rattle.demands.specs.Held.{doing, Row, table, starts, says, builds, Bytes, True, Every, HeldTable, names, stands, parts, apart, swapped, Settles}
+use Rattle.demands.specs.Held.{doing, Row, table, starts, says, afterFrames, Bytes, True, Every, HeldTable, names, stands, parts, apart, swapped, Settles}
 
 abbrev held : Rig → ℕ → ℕ
 held r k = heldAt (heldOf r) k
@@ -33,7 +33,7 @@ held r k = heldAt (heldOf r) k
 -- tests that compute to true where a row's items and bytes are as it says
 abbrev testBytes : Rig → List (ℕ × (ℕ × ℕ)) → Bool
 testBytes r [] = true
-testBytes r (x ∷ xs) = both (eqb (getD (proved .frame (builds ours (x .0) r)) (x .1 .0) 0) (x .1 .1)) (testBytes r xs)
+testBytes r (x ∷ xs) = both (eqb (getD (proved .frame (afterFrames ours (x .0) r)) (x .1 .0) 0) (x .1 .1)) (testBytes r xs)
 
 abbrev testItems : Row → Bool
 testItems r = allBelow (λ k. eqb (held (doing ours startRig (r .steps)) k) (says r k)) items
@@ -45,7 +45,7 @@ test (r ∷ rs) = both (testItems r) (both (testBytes (doing ours startRig (r .s
 bytes-of : (r : Rig) (xs : List (ℕ × (ℕ × ℕ))) → T (testBytes r xs) → Bytes proved r xs
 bytes-of r [] t = tt
 bytes-of r (x ∷ xs) t =
-    let b = eqb (getD (proved .frame (builds ours (x .0) r)) (x .1 .0) 0) (x .1 .1) in
+    let b = eqb (getD (proved .frame (afterFrames ours (x .0) r)) (x .1 .0) 0) (x .1 .1) in
     (eqb→eq _ _ (both-left b (testBytes r xs) t), bytes-of r xs (both-right b (testBytes r xs) t))
 
 rows-of : (rs : List Row) → T (test rs) → Every proved held rs
@@ -62,7 +62,7 @@ rows-of (r ∷ rs) t =
     )
 
 computed : T (test table)
-unfolding doing builds takeOf pendingOf droppedOf closedOf verdictOf freshOf headOf settledOf refusedOf kindOf blockOf countedOf singleOf modeCmd carried relayOf targeted limited switched crcOf crcFrom shift setOf frameOf muxOf groundAt quarterOf
+unfolding doing afterFrames takeOf pendingOf droppedOf closedOf verdictOf freshOf headOf settledOf refusedOf kindOf blockOf countedOf singleOf modeCmd carried relayOf targeted limited switched crcOf crcFrom shift setOf frameOf muxOf groundAt quarterOf
 computed = tt
 
 pub held-table : HeldTable proved held

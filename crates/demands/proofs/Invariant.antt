@@ -16,7 +16,7 @@ use Rattle.rig.specs.declared.Rig.{Rig}
 use Rattle.rig.specs.Words.{takeOf}
 use Rattle.power.specs.Power.{spunOf, setOf}
 use Rattle.sending.specs.Sending.{heldOf, nextLatch, sent, builtOf, nextFrame}
-use Rattle.laws.specs.Runs.{ours, reached}
+use Rattle.laws.specs.Runs.{ours, rigReached}
 use Rattle.laws.specs.Runs as ran
 use Rattle.laws.proofs.Replies.{reply-laws}
 use Rattle.laws.proofs.Runs.{run-laws}
@@ -30,11 +30,11 @@ use Rattle.demands.proofs.Half.{Good, halfOf, Linked, half-step, reads,
 -- a rig that some run of the rig's own events reaches
 pub record Made (r : Rig) : Type 0 where
   pub by : List ran.Happening
-  pub is : r ≡ reached ours by
+  pub is : r ≡ rigReached ours by
 
 -- a run, and one event more
-run-more : (r : Rig) (es : List ran.Happening) (e : ran.Happening) → ran.run ours r (es ++ (e ∷ [])) ≡ ran.happened ours (ran.run ours r es) e
-unfolding ran.run
+run-more : (r : Rig) (es : List ran.Happening) (e : ran.Happening) → ran.rigAfter ours r (es ++ (e ∷ [])) ≡ ran.happened ours (ran.rigAfter ours r es) e
+unfolding ran.rigAfter
 run-more r [] e = refl
 run-more r (x ∷ es) e = run-more (ran.happened ours r x) es e
 
@@ -162,7 +162,7 @@ runs w [] i = i
 runs w (e ∷ es) i = runs (next proved w e) es (step w e i)
 
 begin : Inv (start proved)
-unfolding shownOf ran.run
+unfolding shownOf ran.rigAfter
 begin =
     record {
       made = record { by = []; is = refl };

@@ -21,7 +21,7 @@ use Rattle.sending.specs.Sending.{heldOf}
 use Rattle.laws.specs.Rows.{RowLaws}
 use Rattle.laws.specs.Blocks.{BlockLaws}
 use Rattle.laws.specs.Parts.{Parts}
-use Rattle.laws.specs.Runs.{Happening, reached, RunLaws}
+use Rattle.laws.specs.Runs.{Happening, rigReached, RunLaws}
 use Rattle.block.specs.declared.Kind.{Kind}
 use Rattle.block.specs.declared.Part.{Part}
 use Rattle.block.specs.Kinds.{lengthOf}
@@ -58,8 +58,8 @@ pub record Demand2For (o : Outfit) : Type 0 where
   pub frame : (r : Rig) → o .frame r ≡ frameOf (heldOf r) (r .sending .next) (latchOf (heldOf r) (r .sending .next) (r .sending .latch))
   -- accepted settings show in the next frame that carries them: of every rig that a run has reached, each plain item that the frame carries is read
   -- back as it is held
-  pub shown : (es : List Happening) (k : ℕ) → isPlain k ≡ true → carries k (reached (o .rig) es .sending .next) ≡ true
-      → readOf (o .frame (reached (o .rig) es)) k ≡ Value (heldAt (heldOf (reached (o .rig) es)) k)
+  pub shown : (es : List Happening) (k : ℕ) → isPlain k ≡ true → carries k (rigReached (o .rig) es .sending .next) ≡ true
+      → readOf (o .frame (rigReached (o .rig) es)) k ≡ Value (heldAt (heldOf (rigReached (o .rig) es)) k)
   -- what is written is what is read, item by item, and nothing else is told; the bits that are read, and those that are not
   pub layout : Laws
   -- what each item is held as, and where a frame has it, by example, so that no two can be swapped

@@ -86,13 +86,13 @@ abbrev pub says : Row → ℕ → ℕ
 says r k = listed (r .moved) (starts k) k
 
 -- the rig after so many frames more are built
-unfoldable pub builds : Machine → ℕ → Rig → Rig
-builds m zero r = r
-builds m (suc n) r = builds m n (m .sent r)
+unfoldable pub afterFrames : Machine → ℕ → Rig → Rig
+afterFrames m zero r = r
+afterFrames m (suc n) r = afterFrames m n (m .sent r)
 
 abbrev pub Bytes : Outfit → Rig → List (ℕ × (ℕ × ℕ)) → Type 0
 Bytes o r [] = Unit {0}
-Bytes o r (x ∷ xs) = (getD (o .frame (builds (o .rig) (x .0) r)) (x .1 .0) 0 ≡ x .1 .1) × Bytes o r xs
+Bytes o r (x ∷ xs) = (getD (o .frame (afterFrames (o .rig) (x .0) r)) (x .1 .0) 0 ≡ x .1 .1) × Bytes o r xs
 
 -- a row is true of a rig's functions, and of what is held of each item
 pub record True (o : Outfit) (held : Rig → ℕ → ℕ) (r : Row) : Type 0 where

@@ -19,7 +19,7 @@ use Rattle.rig.specs.Words.{kindOf, refusedOf, settledOf, headOf, freshOf, verd
 use Rattle.rig.specs.Start.{startRig}
 use Rattle.laws.specs.Replies.{ReplyLaws}
 use Rattle.laws.specs.Rows.{RowLaws}
-use Rattle.laws.specs.Runs.{Happening, word, cut, ours, run, ledger, reached, given}
+use Rattle.laws.specs.Runs.{Happening, word, cut, ours, rigAfter, ledger, rigReached, given}
 use Rattle.laws.proofs.Replies.{reply-laws}
 use Rattle.laws.proofs.Rows.{row-laws}
 use Rattle.laws.proofs.One.{one-take}
@@ -30,7 +30,7 @@ send w = word (w % 0x10000) (omega arith)
 
 -- what a run leaves: invalid count, error code, last invalid code, last check
 abbrev left : List Happening → List ℕ
-left es = let r = reached ours es in r .faults .count ∷ r .faults .error ∷ r .faults .last ∷ r .check ∷ []
+left es = let r = rigReached ours es in r .faults .count ∷ r .faults .error ∷ r .faults .last ∷ r .check ∷ []
 
 -- what the ledger says of it: refusals given, number and byte of the latest, check of the latest closing
 abbrev told : List Happening → List ℕ
@@ -53,7 +53,7 @@ runs :
     × (left (send 0x6402 ∷ send 0xA401 ∷ send 0xA400 ∷ send 0xE415 ∷ []) ≡ 0 ∷ 0x00 ∷ 0xFF ∷ 0x15 ∷ [])
     × (left (send 0x6402 ∷ send 0xA401 ∷ send 0xA400 ∷ send 0xE407 ∷ []) ≡ 1 ∷ 0x0B ∷ 0x64 ∷ 0x15 ∷ [])
     × (left (send 0x6402 ∷ send 0xA401 ∷ send 0xE415 ∷ []) ≡ 1 ∷ 0x03 ∷ 0x64 ∷ 0x00 ∷ [])
-unfolding run ledger takeOf pendingOf droppedOf closedOf verdictOf freshOf headOf settledOf refusedOf kindOf singleOf blockOf countedOf carried relayOf targeted crcOf crcFrom shift
+unfolding rigAfter ledger takeOf pendingOf droppedOf closedOf verdictOf freshOf headOf settledOf refusedOf kindOf singleOf blockOf countedOf carried relayOf targeted crcOf crcFrom shift
 runs = (refl, refl, refl, refl, refl, refl, refl, refl, refl, refl, refl)
 
 -- 0C00 at the start is accepted, 8000 is refused 0Bh, by every function under the laws

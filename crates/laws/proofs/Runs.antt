@@ -27,7 +27,7 @@ use Rattle.rig.specs.Start.{startRig}
 use Rattle.power.specs.Power.{panelOf, setOf}
 use Rattle.sending.specs.Sending.{heldOf, bit, nextLatch}
 use Rattle.laws.specs.Replies.{closing}
-use Rattle.laws.specs.Runs.{FitsPanel, Happening, word, spin, set, cut, frame, ours, happened, run, heldAs, Ledger, nothingGiven, latestError, latestCode, entered, ledger, reached, given, Bounds, panelBy, Kept, SetMoves, RunLaws}
+use Rattle.laws.specs.Runs.{FitsPanel, Happening, word, spin, set, cut, frame, ours, happened, rigAfter, heldAs, Ledger, nothingGiven, latestError, latestCode, entered, ledger, rigReached, given, Bounds, panelBy, Kept, SetMoves, RunLaws}
 use Rattle.laws.proofs.Tests.{by-test}
 use Rattle.laws.proofs.Words.{case}
 use Rattle.laws.proofs.Replies.{reply-laws}
@@ -130,12 +130,12 @@ after-inv r l frame i =
     let latched : nextLatch r < 0x100000000 = by-test (_< 0x100000000) (eqb at 0) (λ e. long) (λ e. by-test (_< 0x100000000) (eqb at 27) (λ f. free) (λ f. i .sending .latch)) in
     record { told = i .told; counter = i .counter; holds = i .holds; check = i .check; byte = i .byte; fits = i .fits; panel = i .panel; sending = record { next = omega arith; latch = latched } }
 
-run-inv : (r : Rig) (l : Ledger) (es : List Happening) → Inv r l → Inv (run ours r es) (ledger ours r l es)
-unfolding run ledger
+run-inv : (r : Rig) (l : Ledger) (es : List Happening) → Inv r l → Inv (rigAfter ours r es) (ledger ours r l es)
+unfolding rigAfter ledger
 run-inv r l [] i = i
 run-inv r l (e ∷ es) i = run-inv (happened ours r e) (entered ours r e l) es (after-inv r l e i)
 
-always : (es : List Happening) → Inv (reached ours es) (given ours es)
+always : (es : List Happening) → Inv (rigReached ours es) (given ours es)
 always es = run-inv startRig nothingGiven es start-inv
 
 bounded : {r : Rig} {l : Ledger} → Inv r l → Bounds r
@@ -239,7 +239,7 @@ run-laws =
       check = λ es. always es .check;
       holds = λ es. always es .holds;
       bounds = λ es. bounded (always es);
-      widths = λ es. widths (reached ours es) (bounded (always es));
+      widths = λ es. widths (rigReached ours es) (bounded (always es));
       set = set-moves;
       sent = λ r. record { next = refl; latch = refl; panel = refl; kept = all-kept r (r .panel) _ };
       spin = λ r. record { stop = spin-moves (r .core .stop); edbs = refl; settings = refl; faults = refl; pending = refl; check = refl; panel = refl; sending = refl };

@@ -70,9 +70,9 @@ happened m r cut = m .cut r
 happened m r frame = m .sent r
 
 -- happenings in order, any number of them
-unfoldable pub run : Machine → Rig → List Happening → Rig
-run m r [] = r
-run m r (e ∷ es) = run m (happened m r e) es
+unfoldable pub rigAfter : Machine → Rig → List Happening → Rig
+rigAfter m r [] = r
+rigAfter m r (e ∷ es) = rigAfter m (happened m r e) es
 
 -- What the words sent have begun, told by the words alone: nothing, or a block with its head's byte, its n, and the low bytes of its data words in order.
 pub data Begun : Type 0 where
@@ -166,8 +166,8 @@ ledger m r l [] = l
 ledger m r l (e ∷ es) = ledger m (happened m r e) (entered m r e l) es
 
 -- the rig at the end of a run from the start
-abbrev pub reached : Machine → List Happening → Rig
-reached m es = run m (m .start) es
+abbrev pub rigReached : Machine → List Happening → Rig
+rigReached m es = rigAfter m (m .start) es
 
 -- the ledger at the end of a run from the start
 abbrev pub given : Machine → List Happening → Ledger
@@ -265,22 +265,22 @@ pub record SentMoves (r q : Rig) : Type 0 where
 -- what every run keeps, of the functions of any rig
 pub record RunLaws (m : Machine) : Type 0 where
   -- the invalid count is the number of refusals given since the last power cut, modulo 256
-  pub count : (es : List Happening) → reached m es .faults .count ≡ given m es .refusals % 256
+  pub count : (es : List Happening) → rigReached m es .faults .count ≡ given m es .refusals % 256
   -- the long EDB counter is the number of spins since the last power cut, modulo 2^32
-  pub counter : (es : List Happening) → reached m es .edbs .0 ≡ given m es .spins % 0x100000000
+  pub counter : (es : List Happening) → rigReached m es .edbs .0 ≡ given m es .spins % 0x100000000
   -- the error code and the last invalid code are those of the latest refusal since the last power cut; 0 and FFh if there was none
-  pub error : (es : List Happening) → reached m es .faults .error ≡ given m es .error
-  pub last : (es : List Happening) → reached m es .faults .last ≡ given m es .last
+  pub error : (es : List Happening) → rigReached m es .faults .error ≡ given m es .error
+  pub last : (es : List Happening) → rigReached m es .faults .last ≡ given m es .last
   -- the error code is one of those that there are
-  pub errors : (es : List Happening) → oneOf codes (reached m es .faults .error) ≡ true
+  pub errors : (es : List Happening) → oneOf codes (rigReached m es .faults .error) ≡ true
   -- the last check is that of the data words sent in the latest block that was closed since the last power cut; 0 if there was none
-  pub check : (es : List Happening) → reached m es .check ≡ given m es .check
+  pub check : (es : List Happening) → rigReached m es .check ≡ given m es .check
   -- the pending block is what the words sent have begun: its head, its n, and the bytes of its data words; or none
-  pub holds : (es : List Happening) → reached m es .pending ≡ heldAs (given m es .begun)
+  pub holds : (es : List Happening) → rigReached m es .pending ≡ heldAs (given m es .begun)
   -- every field keeps its bounds
-  pub bounds : (es : List Happening) → Bounds (reached m es)
+  pub bounds : (es : List Happening) → Bounds (rigReached m es)
   -- what a frame shows of each plain item fits the item's width, so that nothing is cut off
-  pub widths : (es : List Happening) (k : ℕ) → isPlain k ≡ true → heldAt (heldOf (reached m es)) k < remOf k
+  pub widths : (es : List Happening) (k : ℕ) → isPlain k ≡ true → heldAt (heldOf (rigReached m es)) k < remOf k
   -- a setting and a frame move every rig so, and so does a spin; a power cut returns it to the start
   pub set : (r : Rig) (s : PanelSetting) → SetMoves r s (m .set r s)
   pub sent : (r : Rig) → SentMoves r (m .sent r)
