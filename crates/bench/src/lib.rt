@@ -31,7 +31,7 @@ pub fn word(bench: Bench, word: u16) -> Worded
 {
     let was = bench.rig;
     let desk = bench.desk;
-    let t = rig::words::take(was, word);
+    let t = words::take(was, word);
     let taken = t.rig;
     let reply = t.reply;
     Worded {

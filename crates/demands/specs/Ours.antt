@@ -26,7 +26,7 @@ use Rattle.power.proofs.power_cut.Reads as cut-fn
 use Rattle.rig.specs.declared.Rig.{Rig}
 use Rattle.rig.specs.declared.Taken.{Taken}
 use Rattle.rig.proofs.start.Reads as start-fn
-use Rattle.rig.proofs.words.take.Reads as take-fn
+use Rattle.words.proofs.take.Reads as take-fn
 use Rattle.sending.specs.declared.Built.{Built}
 use Rattle.sending.proofs.build.Reads as build-fn
 use Rattle.sending.proofs.build.Kinds as build-kinds

@@ -41,7 +41,7 @@ fn hear(rig: Rig, word: u16, page: &mut [u8], at: usize) -> Listed
         × Puts at (linesOf word (takeOf rig word .reply)) (now (page .entry)) (r .len) (now (page .exit))
         × (r .len ≤ at + PAIR) ⌝ }
 {
-    let taken = rig::words::take(rig, word);
+    let taken = words::take(rig, word);
     let next = taken.rig;
     let reply = taken.reply;
     let len = lines::put_lines(word, reply, page, at);

@@ -1,5 +1,5 @@
-// The rig: what it is made of, and its start. Its modules: `words` takes words, `replies` tells a reply's numbers. `power` and `sending` stand above it.
-// Keeps 01 "Command words", and of "Spins and power" the start, to which a power cut returns. The rig goes in by value and comes back.
+// The rig: what it is made of, and its start. Crates above it move it: `words` takes words, `power` spins and cuts, `sending` builds frames.
+// Keeps of 01 "Spins and power" the start, to which a power cut returns; the rules of "Command words" are defined here. It goes in by value and comes back.
 ghost use mathlib.Core.Path.{_≡_};
 ghost use Rattle.rig.specs.Words.{nothingPending};
 ghost use Rattle.rig.specs.Start.{startCore, startRig};
@@ -12,9 +12,6 @@ use judge::Sensor;
 use judge::Settings;
 use judge::Window;
 use supply::Supply;
-
-pub mod replies; // replies.rt: the numbers of a reply
-pub mod words; // words.rt: one word taken
 
 // The kind of a word.
 pub enum Kind {
@@ -93,7 +90,7 @@ pub enum Reply {
 }
 
 // The number of a dropped block.
-const DROPPED: u8 = 0x03;
+pub const DROPPED: u8 = 0x03;
 
 // The rig after a word, and the reply.
 pub struct Taken {
@@ -108,8 +105,8 @@ pub struct Numbers {
     pub second: u8,
 }
 
-// No block waits.
-fn nothing() -> Pending
+// No block waits: one value, to which a close, a drop and a power cut return.
+pub fn nothing_pending() -> Pending
     ensures { λ r. ⌜ r ≡ nothingPending ⌝ }
 {
     Pending {
@@ -160,7 +157,7 @@ pub fn start() -> Rig
     ensures { λ r. ⌜ r ≡ startRig ⌝ }
 {
     let core = start_core();
-    let pending = nothing();
+    let pending = nothing_pending();
     Rig {
         core,
         faults: Faults {

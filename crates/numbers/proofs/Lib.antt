@@ -1,0 +1,2 @@
+-- Single outcome of the numbers' function.
+pub mod Single

@@ -1,0 +1,2 @@
+-- Single outcome of the way's function.
+pub mod Single

@@ -1,0 +1,2 @@
+-- Single outcome of the word's function.
+pub mod Single
