@@ -15,7 +15,7 @@ fn say(why: block::Refusal) {
 
 fn say_part(name: &[u8], b: &[u8], part: Part) {
     print::text(name);
-    match block::locate(b, part) {
+    match locating::locate(b, part) {
         Located::At(_, _) => print::text(b" found"),
         Located::Refused(why) => say(why),
     }

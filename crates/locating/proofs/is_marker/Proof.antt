@@ -1,10 +1,10 @@
--- `block::is_marker` meets its contract: byte by byte, the first that differs answers no.
+-- `locating::is_marker` meets its contract: byte by byte, the first that differs answers no.
 -- Assumes nothing.
 use borrow.Author.Needs.{needs}
 use borrow.Author.Tests.{eq-eqb, ne-eqb}
 use Rattle.block.specs.Layout.{marker}
-use Rattle.block.proofs.is_marker.Statement.{statement}
-use Rattle.block.proofs.is_marker.Tie as tie
+use Rattle.locating.proofs.is_marker.Statement.{statement}
+use Rattle.locating.proofs.is_marker.Tie as tie
 
 returns : tie.Need-returns
 unfolding marker

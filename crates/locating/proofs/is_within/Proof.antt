@@ -1,4 +1,4 @@
--- `block::is_within` meets its contract: the two tests are one, with no sum that could overflow.
+-- `locating::is_within` meets its contract: the two tests are one, with no sum that could overflow.
 -- Assumes nothing.
 use mathlib.Core.Path.{_≡_, sym, _∙_}
 use Prim.Native.Nat.{ℕ, _+_, _-_, _≤_, _<_}
@@ -6,8 +6,8 @@ use native.Mathlib.Omega.{arith}
 use lib.Dec.{leb}
 use borrow.Author.Tests.{leb-true, leb-false, le-leb, lt-leb}
 use Rattle.base.proofs.Cases.{split}
-use Rattle.block.proofs.is_within.Statement.{statement}
-use Rattle.block.proofs.is_within.Tie as tie
+use Rattle.locating.proofs.is_within.Statement.{statement}
+use Rattle.locating.proofs.is_within.Tie as tie
 
 one : (l a n : ℕ) → a ≤ l → leb n (l - a) ≡ leb (a + n) l
 one l a n h =

@@ -1,4 +1,4 @@
--- `block::seen_in` meets its contract: the length that a marker needs, then the marker; the rest is each kind's own.
+-- `locating::seen_in` meets its contract: the length that a marker needs, then the marker; the rest is each kind's own.
 -- Assumes nothing.
 use mathlib.Core.Path.{_≡_, _∙_}
 use mathlib.Core.Bool.{true, false}
@@ -8,11 +8,11 @@ use lib.Dec.{eqb, ltb}
 use lib.ListN.{length, getD}
 use borrow.Author.Needs.{needs}
 use borrow.Author.Tests.{not-true, not-false, lt-ltb, le-ltb, eq-eqb, ne-eqb}
 use Rattle.block.specs.declared.Kind.the-variants.{Nm, Bm1}
 use Rattle.block.specs.Layout.{marker, layoutOf}
 use Rattle.block.proofs.Laws.{unmarked, marked, third}
-use Rattle.block.proofs.seen_in.Statement.{statement}
-use Rattle.block.proofs.seen_in.Tie as tie
+use Rattle.locating.proofs.seen_in.Statement.{statement}
+use Rattle.locating.proofs.seen_in.Tie as tie
 
 -- what the first tests showed
 long : (c : tie.Else1) → ltb (length (now (c .before .before .args .b))) 3 ≡ false

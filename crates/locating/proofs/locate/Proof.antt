@@ -1,10 +1,10 @@
--- `block::locate` meets its contract: in each arm the layout is known, and its kind.
+-- `locating::locate` meets its contract: in each arm the layout is known, and its kind.
 -- Assumes nothing.
 use mathlib.Core.Path.{_∙_}
 use borrow.Author.Needs.{needs}
 use Rattle.block.proofs.Laws.{located-seen, kind-is}
-use Rattle.block.proofs.locate.Statement.{statement}
-use Rattle.block.proofs.locate.Tie as tie
+use Rattle.locating.proofs.locate.Statement.{statement}
+use Rattle.locating.proofs.locate.Tie as tie
 
 returns : tie.Need-returns
 returns c = located-seen _ _ _ _ (c .before .before .before .layout-of .ensures) (c .before .layout .given .1)

@@ -1,10 +1,10 @@
--- `block::layout_of` meets its contract: in each arm the sort is known.
+-- `locating::layout_of` meets its contract: in each arm the sort is known.
 -- Assumes nothing.
 use mathlib.Core.Path.{_∙_}
 use borrow.Author.Needs.{needs}
-use Rattle.block.proofs.Laws.{seen-is}
-use Rattle.block.proofs.layout_of.Statement.{statement}
-use Rattle.block.proofs.layout_of.Tie as tie
+use Rattle.locating.proofs.Laws.{seen-is}
+use Rattle.locating.proofs.layout_of.Statement.{statement}
+use Rattle.locating.proofs.layout_of.Tie as tie
 
 pub layout-of-spec : {M : Type 1} → statement M
 layout-of-spec =

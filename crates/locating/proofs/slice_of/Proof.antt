@@ -1,4 +1,4 @@
--- `block::slice_of` meets its contract: what is within the slice can be taken; else there is nothing.
+-- `locating::slice_of` meets its contract: what is within the slice can be taken; else there is nothing.
 -- Assumes nothing.
 use mathlib.Core.Path.{_≡_, sym, _∙_}
 use Prim.Native.Nat.{ℕ, _+_, _-_, _≤_}
@@ -7,8 +7,8 @@ use denote.Ref.{now}
 use lib.ListN.{length}
 use borrow.Author.Needs.{needs}
 use borrow.Author.Tests.{leb-true}
-use Rattle.block.proofs.slice_of.Statement.{statement}
-use Rattle.block.proofs.slice_of.Tie as tie
+use Rattle.locating.proofs.slice_of.Statement.{statement}
+use Rattle.locating.proofs.slice_of.Tie as tie
 
 inside : (c : tie.Then1) → c .before .before .before .place .given .0 .0 + c .before .before .before .place .given .0 .1 .0 ≤ length (now (c .before .before .before .before .before .before .args .b))
 inside c = leb-true _ _ (sym (c .before .is-within .ensures) ∙ c .if1 .taken)

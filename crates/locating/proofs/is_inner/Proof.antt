@@ -1,4 +1,4 @@
--- `block::is_inner` meets its contract: in each arm the kind is known, and with it the markers that it has.
+-- `locating::is_inner` meets its contract: in each arm the kind is known, and with it the markers that it has.
 -- Assumes nothing.
 use mathlib.Core.Path.{_≡_, ap, sym, _∙_}
 use mathlib.Core.Bool.{Bool, true, false, _&&_}
@@ -7,10 +7,10 @@ use denote.Ref.{now}
 use lib.ListN.{length}
 use borrow.Author.Needs.{needs}
 use Rattle.base.proofs.Cases.{split}
 use Rattle.block.specs.Kinds.{lengthOf}
 use Rattle.block.specs.Layout.{marker, inner}
-use Rattle.block.proofs.is_inner.Statement.{statement}
-use Rattle.block.proofs.is_inner.Tie as tie
+use Rattle.locating.proofs.is_inner.Statement.{statement}
+use Rattle.locating.proofs.is_inner.Tie as tie
 
 long : (c : tie.After-enum-told2) → length (now (c .before .before .before .args .b)) ≡ 2304
 long c = c .before .before .before .pre ∙ ap lengthOf (c .enum-told2 .given .1)
