@@ -53,8 +53,8 @@ use Rattle.event.specs.declared.Itemed.{Itemed}
 use Rattle.event.specs.Event.{directOf}
 use Rattle.event.specs.Ifft.{eventOf, itemOf}
 use Rattle.event.proofs.direct_event.Reads as event-fn
-use Rattle.event.proofs.ifft_event.Reads as ifft-event-fn
-use Rattle.event.proofs.ifft_item.Reads as ifft-item-fn
+use Rattle.ifft.proofs.ifft_event.Reads as ifft-event-fn
+use Rattle.ifft.proofs.ifft_item.Reads as ifft-item-fn
 use Rattle.demands.specs.Outfit.{proved}
 
 -- The functions of the outfit `proved`. Its `frame` and `sent` no function answers alone: `build` and `filled` tie them (Demand1, `room`).

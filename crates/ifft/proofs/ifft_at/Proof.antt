@@ -1,4 +1,4 @@
--- `event::ifft_at` meets its contract: the layout; then the grounds of 24, and the count.
+-- `ifft::ifft_at` meets its contract: the layout; then the grounds of 24, and the count.
 -- Assumes nothing.
 use mathlib.Core.Path.{_≡_, sym, _∙_}
 use mathlib.Core.Bool.{true, false}
@@ -12,9 +12,9 @@ use Rattle.block.specs.declared.Layout.the-variants.{Is}
 use Rattle.block.specs.Kinds.{lengthOf}
 use Rattle.block.specs.Layout.{layoutOf}
 use Rattle.block.proofs.Laws.{layout-is}
 use Rattle.event.proofs.Laws.{ifft-as, ifft-wrong, ifft-beyond, ifft-found, shortest, times}
-use Rattle.event.proofs.ifft_at.Statement.{statement}
-use Rattle.event.proofs.ifft_at.Tie as tie
+use Rattle.ifft.proofs.ifft_at.Statement.{statement}
+use Rattle.ifft.proofs.ifft_at.Tie as tie
 
 here : (c : tie.After-layout2) → layoutOf (now (c .before .before .before .before .args .b)) ≡ Is (c .layout2 .given .0 .0) (c .layout2 .given .0 .1 .0) (c .layout2 .given .0 .1 .1 .0)
 here c = sym (c .before .before .layout-of .ensures) ∙ c .layout2 .given .1

@@ -1,13 +1,13 @@
--- `event::is_wrong` meets its contract: the five grounds of 24 in their order. Bit 0 is `d1 / 1 % 2` in the definition.
+-- `ifft::is_wrong` meets its contract: the five grounds of 24 in their order. Bit 0 is `d1 / 1 % 2` in the definition.
 -- Assumes nothing.
 use mathlib.Core.Path.{_≡_, sym, _∙_}
 use mathlib.Core.Bool.{Bool, true, false, not}
 use native.Mathlib.Nat.{div-one}
 use borrow.Author.Needs.{needs}
 use borrow.Author.Tests.{not-true, not-false, eq-eqb, ne-eqb}
 use Rattle.event.specs.Ifft.{wrong}
-use Rattle.event.proofs.is_wrong.Statement.{statement}
-use Rattle.event.proofs.is_wrong.Tie as tie
+use Rattle.ifft.proofs.is_wrong.Statement.{statement}
+use Rattle.ifft.proofs.is_wrong.Tie as tie
 
 -- of a test that a call answered
 no : (x y : Bool) → x ≡ y → not x ≡ true → y ≡ false

@@ -1,10 +1,10 @@
--- `parts::ifft::rows` is safe and ends: the measure is the rows that are left.
+-- `parts::entries::rows` is safe and ends: the measure is the rows that are left.
 -- Assumes nothing.
 use Prim.Native.Nat.{_-_}
 use lib.ListN.{length}
 use borrow.Author.Needs.{needs}
-use Rattle.parts.proofs.ifft.rows.Statement.{statement}
-use Rattle.parts.proofs.ifft.rows.Tie as tie
+use Rattle.parts.proofs.entries.rows.Statement.{statement}
+use Rattle.parts.proofs.entries.rows.Tie as tie
 
 abbrev Inv-loop : tie.InvT-loop
 Inv-loop entry counter list i₀ i = Unit

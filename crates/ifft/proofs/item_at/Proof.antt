@@ -1,8 +1,8 @@
--- `event::item_at` meets its contract: two words, and the library's count of the ones of the second.
+-- `ifft::item_at` meets its contract: two words, and the library's count of the ones of the second.
 -- Assumes nothing.
 use borrow.Author.Needs.{needs}
-use Rattle.event.proofs.item_at.Statement.{statement}
-use Rattle.event.proofs.item_at.Tie as tie
+use Rattle.ifft.proofs.item_at.Statement.{statement}
+use Rattle.ifft.proofs.item_at.Tie as tie
 
 returns : tie.Need-returns
 returns c = cc

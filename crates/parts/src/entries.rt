@@ -33,11 +33,11 @@ fn say_entry(b: &[u8], entry: Entry, n: usize) {
     match entry {
         Entry::Event => {
             print::number(b" IFFT event ", n);
-            events::say(event::ifft_event(b, n));
+            events::say(ifft::ifft_event(b, n));
         }
         Entry::Item => {
             print::number(b" IFFT item ", n);
-            say_itemed(event::ifft_item(b, n));
+            say_itemed(ifft::ifft_item(b, n));
         }
     }
 }

@@ -1,4 +1,4 @@
--- `event::ifft_item` meets its contract: the item at the entry, which ends in the block.
+-- `ifft::ifft_item` meets its contract: the item at the entry, which ends in the block.
 -- Assumes nothing.
 use mathlib.Core.Path.{_≡_, sym, _∙_, ap}
 use Prim.Native.Nat.{_≤_}
@@ -6,13 +6,13 @@ use native.Mathlib.Omega.{arith}
 use denote.Ref.{now}
 use lib.ListN.{length}
 use borrow.Author.Needs.{needs}
 use Rattle.event.specs.declared.Entry.{Entry}
 use Rattle.event.specs.declared.Entry.the-variants.{At}
 use Rattle.event.specs.declared.Itemed.the-variants.{Is}
 use Rattle.event.specs.Steps.{ifftAt, reach}
 use Rattle.event.proofs.Laws.{ifft-ends, itemIn, item-is}
-use Rattle.event.proofs.ifft_item.Statement.{statement}
-use Rattle.event.proofs.ifft_item.Tie as tie
+use Rattle.ifft.proofs.ifft_item.Statement.{statement}
+use Rattle.ifft.proofs.ifft_item.Tie as tie
 
 ends : (c : tie.After-entry) → reach (At (c .entry .given .0 .0)) 4 ≤ length (now (c .before .before .before .before .args .b))
 ends c =

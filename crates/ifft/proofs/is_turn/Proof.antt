@@ -1,9 +1,9 @@
--- `event::is_turn` meets its contract: the three counters in turn.
+-- `ifft::is_turn` meets its contract: the three counters in turn.
 -- Assumes nothing.
 use borrow.Author.Needs.{needs}
 use borrow.Author.Tests.{eq-eqb, ne-eqb}
-use Rattle.event.proofs.is_turn.Statement.{statement}
-use Rattle.event.proofs.is_turn.Tie as tie
+use Rattle.ifft.proofs.is_turn.Statement.{statement}
+use Rattle.ifft.proofs.is_turn.Tie as tie
 
 returns-2 : tie.Need-returns-2
 returns-2 c = simp (ne-eqb _ _ (c .before .if1 .left), eq-eqb _ _ (c .if2 .taken))
