@@ -19,8 +19,6 @@ use Rattle.block.specs.declared.Layout.{Layout}
 use Rattle.block.specs.declared.Layout.the-variants.{Is, Bad}
 use Rattle.block.specs.declared.Part.{Part}
 use Rattle.block.specs.declared.Part.the-variants.{Marker, Index, Descriptor1, Calibration, MSigns, Sgl0, DirectEvents, HSpct, ISpct, Sgl1, Sgl2, Sgl3, IPad, I3dd, Mtrx, Descriptor2, EPad, E3dd, M}
-use Rattle.block.specs.declared.Sort.{Sort}
-use Rattle.block.specs.declared.Seen.{Seen}
 use Rattle.block.specs.declared.Columns.{Columns}
 use Rattle.block.specs.declared.Located.{Located}
 use Rattle.block.specs.declared.Located.the-variants.{At, Refused}
@@ -29,7 +27,7 @@ use Rattle.block.specs.Kinds.{kinds, lengthOf, markerOf, secondAt}
 use Rattle.block.specs.Tables.{parts, rowOf, has, rowIn}
 use Rattle.block.specs.Layout.{marker, known, inner, bit, kindOf, first, dumped, second, blockTests, layoutOf}
 use Rattle.block.specs.Parts.{hidden, placeTests, placeOf, locateOf, partOf}
-use Rattle.block.specs.Steps.{layoutIs, layoutBy, sortOf, asKind, groupOf, hides, columnsOf, foundAt, placeIn}
+use Rattle.block.specs.Steps.{asKind, groupOf, hides, columnsOf, foundAt, placeIn}
 
 -- what is made of an answer is made of it after the same tests
 pub through : {A B : Type 0} (f : A → B) (refused : Refusal → A) (ts : Tests) (a : A) → f (unless refused ts a) ≡ unless (λ (r : Refusal). f (refused r)) ts (f a)
@@ -207,14 +205,6 @@ module _ (d1 d2 : ℕ) where
 pub found-01 : (k : Kind) (d1 d2 : ℕ) (p : Part) (c : Columns) → c ≡ columnsOf k p → foundAt c d1 d2 ≡ placeOf k d1 d2 p
 unfolding placeOf
 found-01 k d1 d2 p c e = ap (λ (q : Columns). foundAt q d1 d2) e ∙ simp (lacking k p, hides-01 d1 d2 p)
-
--- the code's flat record, once its sort is known
-pub seen-is : (s : Seen) (k : Sort) → s .0 ≡ k → layoutIs k (s .1) (s .2) ≡ layoutBy s
-seen-is s k e = ap (λ (q : Sort). layoutIs q (s .1) (s .2)) (sym e)
-
-pub good-is : (k : Kind) (d1 d2 : ℕ) → layoutIs (sortOf k) d1 d2 ≡ Is k d1 d2
-good-is Nm d1 d2 = refl
-good-is Bm1 d1 d2 = refl
 
 -- what is located in a block: the block's layout, then the place there
 pub located-as : (b : List ℕ) (p : Part) → placeIn (layoutOf b) p ≡ locateOf b p

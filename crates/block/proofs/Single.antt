@@ -1,14 +1,10 @@
 -- Single outcome: two results that meet a function's own contract at the same arguments are equal.
 -- Stated of the contract that the checker makes of the source (`Reads.Post`). Assumes nothing.
 use mathlib.Core.Path.{_≡_}
-use mathlib.Core.List.{List}
 use Prim.Native.Nat.{ℕ}
-use contract.Lifetimes.{Lfts}
-use denote.Ref.{RefT, now}
 use Rattle.base.proofs.Single.{same}
 use Rattle.block.specs.declared.Refusal.{Refusal}
 use Rattle.block.specs.declared.Kind.{Kind}
-use Rattle.block.specs.declared.Layout.{Layout}
 use Rattle.block.specs.declared.Part.{Part}
 use Rattle.block.specs.declared.Located.{Located}
 use Rattle.block.proofs.number.Reads as number
@@ -16,9 +12,6 @@ use Rattle.block.proofs.length_of.Reads as length-of
 use Rattle.block.proofs.marker_of.Reads as marker-of
 use Rattle.block.proofs.row_of.Reads as row-of
 use Rattle.block.proofs.place_of.Reads as place-of
-use Rattle.block.proofs.layout_of.Reads as layout-of
-use Rattle.block.proofs.locate.Reads as locate
-use Rattle.block.proofs.slice_of.Reads as slice-of
 
 pub number-one : (f : Refusal) (r q : ℕ) → number.Post tt (f, tt) r (f, tt) → number.Post tt (f, tt) q (f, tt) → r ≡ q
 number-one f r q m n = same m n
@@ -35,14 +28,3 @@ row-of-one p r q m n = same m n
 pub place-of-one : (k : Kind) (d1 d2 : ℕ) (p : Part) (r q : Located) → place-of.Post tt (k, (d1, (d2, (p, tt)))) r (k, (d1, (d2, (p, tt))))
     → place-of.Post tt (k, (d1, (d2, (p, tt)))) q (k, (d1, (d2, (p, tt)))) → r ≡ q
 place-of-one k d1 d2 p r q m n = same m n
-
-module _ (κs : Lfts 1) (b : RefT (List ℕ)) where
-  pub layout-of-one : (r q : Layout) → layout-of.Post κs (b, tt) r (b, tt) → layout-of.Post κs (b, tt) q (b, tt) → r ≡ q
-  layout-of-one r q m n = same m n
-
-  pub locate-one : (p : Part) (r q : Located) → locate.Post κs (b, (p, tt)) r (b, (p, tt)) → locate.Post κs (b, (p, tt)) q (b, (p, tt)) → r ≡ q
-  locate-one p r q m n = same m n
-
-  -- of a slice handed back the outcome is its bytes
-  pub slice-of-one : (p : Located) (r q : RefT (List ℕ)) → slice-of.Post κs (b, (p, tt)) r (b, (p, tt)) → slice-of.Post κs (b, (p, tt)) q (b, (p, tt)) → now r ≡ now q
-  slice-of-one p r q m n = same m n

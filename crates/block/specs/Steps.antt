@@ -5,14 +5,10 @@ use mathlib.Core.List.{List, [], _∷_}
 use Prim.Native.Nat.{ℕ}
 use lib.Dec.{eqb}
 use Rattle.base.specs.Pick.{pick}
-use Rattle.block.specs.declared.Refusal.the-variants.{NoMarker, WrongLength, InnerMarker, Beyond, Hidden}
+use Rattle.block.specs.declared.Refusal.the-variants.{Beyond, Hidden}
 use Rattle.block.specs.declared.Kind.{Kind}
-use Rattle.block.specs.declared.Kind.the-variants.{Nm, Bm1}
 use Rattle.block.specs.declared.Layout.{Layout}
 use Rattle.block.specs.declared.Layout.the-variants.{Is, Bad}
-use Rattle.block.specs.declared.Sort.{Sort}
-use Rattle.block.specs.declared.Sort.the-variants as sort
-use Rattle.block.specs.declared.Seen.{Seen}
 use Rattle.block.specs.declared.Part.{Part}
 use Rattle.block.specs.declared.Part.the-variants.{Descriptor2}
 use Rattle.block.specs.declared.Group.{Group}
@@ -24,21 +20,6 @@ use Rattle.block.specs.Refusals.{unless}
 use Rattle.block.specs.Tables.{rowOf, among, rowIn}
 use Rattle.block.specs.Layout.{bit, first, second, kindTests}
 use Rattle.block.specs.Parts.{opening, electrons, placeOf}
-
--- the layout that the code's flat record stands for
-abbrev pub layoutIs : Sort → ℕ → ℕ → Layout
-layoutIs sort.Nm d1 d2 = Is Nm d1 d2
-layoutIs sort.Bm1 d1 d2 = Is Bm1 d1 d2
-layoutIs sort.NoMarker d1 d2 = Bad NoMarker
-layoutIs sort.WrongLength d1 d2 = Bad WrongLength
-layoutIs sort.InnerMarker d1 d2 = Bad InnerMarker
-
-abbrev pub layoutBy : Seen → Layout
-layoutBy s = layoutIs (s .0) (s .1) (s .2)
-
-abbrev pub sortOf : Kind → Sort
-sortOf Nm = sort.Nm
-sortOf Bm1 = sort.Bm1
 
 -- what follows a kind's marker
 unfoldable pub asKind : List ℕ → Kind → Layout

@@ -140,7 +140,7 @@ fn readings() {
 fn show_item(b: &[u8], n: usize) {
     printing::text(b"item ");
     printing::number(n as u64);
-    match event::ifft_item(b, n) {
+    match ifft::ifft_item(b, n) {
         Itemed::Is(item) => {
             printing::text(b" second word ");
             printing::word(item.second);

@@ -8,8 +8,8 @@ use denote.Ref.{RefT, now}
 use Rattle.block.specs.declared.Part.{Part}
 use Rattle.block.specs.declared.Located.{Located}
 use Rattle.block.specs.Parts.{bytesOf, partOf}
-use Rattle.block.proofs.locate.Reads as locate-fn
-use Rattle.block.proofs.slice_of.Reads as slice-fn
+use Rattle.locating.proofs.locate.Reads as locate-fn
+use Rattle.locating.proofs.slice_of.Reads as slice-fn
 use Rattle.demands.specs.Ours.{OurOutfit, OurBlocks}
 
 pub our-outfit : OurOutfit

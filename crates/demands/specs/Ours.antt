@@ -46,15 +46,15 @@ use Rattle.block.specs.Refusals as blocks
 use Rattle.block.specs.Parts.{placeOf, locateOf, partOf}
 use Rattle.block.proofs.number.Reads as block-number-fn
 use Rattle.block.proofs.place_of.Reads as place-fn
-use Rattle.block.proofs.locate.Reads as locate-fn
-use Rattle.block.proofs.slice_of.Reads as slice-fn
+use Rattle.locating.proofs.locate.Reads as locate-fn
+use Rattle.locating.proofs.slice_of.Reads as slice-fn
 use Rattle.event.specs.declared.Evented.{Evented}
 use Rattle.event.specs.declared.Itemed.{Itemed}
 use Rattle.event.specs.Event.{directOf}
 use Rattle.event.specs.Ifft.{eventOf, itemOf}
 use Rattle.event.proofs.direct_event.Reads as event-fn
-use Rattle.event.proofs.ifft_event.Reads as ifft-event-fn
-use Rattle.event.proofs.ifft_item.Reads as ifft-item-fn
+use Rattle.ifft.proofs.ifft_event.Reads as ifft-event-fn
+use Rattle.ifft.proofs.ifft_item.Reads as ifft-item-fn
 use Rattle.demands.specs.Outfit.{proved}
 
 -- The functions of the outfit `proved`. Its `frame` and `sent` no function answers alone: `build` and `filled` tie them (Demand1, `room`).

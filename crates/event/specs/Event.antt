@@ -36,14 +36,17 @@ abbrev pub directionOf : ℕ → Direction
 directionOf d = pick (ltb d 12) (Head (d / 4 + 1) (d % 4)) (pick (ltb d 15) (HeadOnly (d - 11)) Unknown)
 
 -- three bytes: energy, time, sector (high four bits) with direction D
-abbrev pub eventAt : List ℕ → ℕ → Event
-eventAt b at =
+abbrev pub eventFrom : ℕ → ℕ → ℕ → Event
+eventFrom energy time third =
     record {
-      energy = getD b at 0;
-      time = getD b (at + 1) 0;
-      sector = getD b (at + 2) 0 / 16;
-      direction = directionOf (getD b (at + 2) 0 % 16);
+      energy = energy;
+      time = time;
+      sector = third / 16;
+      direction = directionOf (third % 16);
     }
+
+abbrev pub eventAt : List ℕ → ℕ → Event
+eventAt b at = eventFrom (getD b at 0) (getD b (at + 1) 0) (getD b (at + 2) 0)
 
 -- as many as fill their part: 20 in NM, 106 in BM1
 abbrev pub eventsIn : Kind → ℕ

@@ -1,11 +1,8 @@
-// Direct events, and the events and matrix items of the IFFT block, read by number from a data block.
-// Keeps 01 "Data blocks" (direct events, IFFT2) and the rows 22 to 24 of "What the numbers mean".
+// Direct events, read by number from a data block; and what an entry is that is read by number, of the IFFT block too.
+// Keeps 01 "Data blocks" (direct events) and the rows 22 and 23 of "What the numbers mean".
 ghost use mathlib.Core.Path.{_≡_};
-ghost use Prim.Native.Nat.{_+_, _*_, _≤_};
-ghost use lib.ListN.{length};
-ghost use Rattle.event.specs.Event.{directionOf, eventAt, eventsIn, directOf};
-ghost use Rattle.event.specs.Ifft.{isNm, turn, wrong, wordAt, itemAt, eventOf, itemOf};
-ghost use Rattle.event.specs.Steps.{reach, directAt, ifftAt, eventIn};
+ghost use Rattle.event.specs.Event.{directionOf, eventFrom, eventsIn, directOf};
+ghost use Rattle.event.specs.Steps.{directAt};
 use block::Kind;
 use block::Layout;
 use block::Located;
@@ -45,7 +42,7 @@ pub enum Itemed {
 }
 
 // Where what is asked for by number begins, or why it is refused.
-enum Entry {
+pub enum Entry {
     At(usize),
     Refused(Refusal),
 }
@@ -62,30 +59,16 @@ fn direction_of(d: u8) -> Direction
     Direction::Unknown
 }
 
-fn event_at(b: &[u8], at: usize) -> Event
-    requires { ⌜ at + 3 ≤ length (now b) ⌝ }
-    ensures { λ r. ⌜ r ≡ eventAt (now (b .entry)) at ⌝ }
+// The event of three bytes; the third has the sector in its high four bits, and D.
+pub fn event_from(energy: u8, time: u8, third: u8) -> Event
+    ensures { λ r. ⌜ r ≡ eventFrom energy time third ⌝ }
 {
-    let last = b[at + 2];
-    let direction = direction_of(last % 16);
+    let direction = direction_of(third % 16);
     Event {
-        energy: b[at],
-        time: b[at + 1],
-        sector: last / 16,
+        energy,
+        time,
+        sector: third / 16,
         direction,
-    }
-}
-
-fn event_in(b: &[u8], entry: Entry) -> Evented
-    requires { ⌜ reach entry 3 ≤ length (now b) ⌝ }
-    ensures { λ r. ⌜ r ≡ eventIn (now (b .entry)) entry ⌝ }
-{
-    match entry {
-        Entry::At(at) => {
-            let event = event_at(b, at);
-            Evented::Is(event)
-        }
-        Entry::Refused(r) => Evented::Refused(r),
     }
 }
 
@@ -104,7 +87,7 @@ fn events_in(kind: Kind) -> usize
 fn direct_at(b: &[u8], n: usize) -> Entry
     ensures { λ r. ⌜ r ≡ directAt (now (b .entry)) n ⌝ }
 {
-    let layout = block::layout_of(b);
+    let layout = locating::layout_of(b);
     match layout {
         Layout::Bad(r) => Entry::Refused(r),
         Layout::Is(kind, d1, d2) => {
@@ -124,94 +107,12 @@ fn direct_at(b: &[u8], n: usize) -> Entry
 pub fn direct_event(b: &[u8], n: usize) -> Evented
     ensures { λ r. ⌜ r ≡ directOf (now (b .entry)) n ⌝ }
 {
-    event_in(b, direct_at(b, n))
-}
-
-fn is_nm(kind: Kind) -> bool
-    ensures { λ r. ⌜ r ≡ isNm kind ⌝ }
-{
-    match kind {
-        Kind::Nm => true,
-        Kind::Bm1 => false,
-    }
-}
-
-// Events come at spin counters 5, 7, 9 and matrix items at 6, 8, 10.
-fn is_turn(spin: u8, first: u8) -> bool
-    requires { ⌜ first ≤ 6 ⌝ }
-    ensures { λ r. ⌜ r ≡ turn first spin ⌝ }
-{
-    spin == first || (spin == first + 2 || spin == first + 4)
-}
-
-// 24: not NM, no IFFT, a memory dump, another spin counter, or a count that the block can't hold.
-fn is_wrong(kind: Kind, d1: u8, spin: u8, count: u8, first: u8, most: u8) -> bool
-    requires { ⌜ first ≤ 6 ⌝ }
-    ensures { λ r. ⌜ r ≡ wrong kind d1 spin count first most ⌝ }
-{
-    let wanted = is_nm(kind);
-    let turn = is_turn(spin, first);
-    !wanted || (d1 % 2 != 1 || (d1 / 4 % 2 == 1 || (!turn || most < count)))
-}
-
-// The entry of a number in the IFFT block, at 20h on: those that come first at this spin counter, are at most so many, and have this size.
-fn ifft_at(b: &[u8], n: usize, first: u8, most: u8, size: usize) -> Entry
-    requires { ⌜ (first ≤ 6) × (size ≤ 4) ⌝ }
-    ensures { λ r. ⌜ r ≡ ifftAt (now (b .entry)) n first most size ⌝ }
-{
-    let layout = block::layout_of(b);
-    match layout {
-        Layout::Bad(r) => Entry::Refused(r),
-        Layout::Is(kind, d1, _) => {
-            let count = b[6];
-            if is_wrong(kind, d1, b[5], count, first, most) {
-                return Entry::Refused(Refusal::NotIfft);
-            }
-            if count as usize <= n {
-                return Entry::Refused(Refusal::Beyond);
-            }
-            Entry::At(0x020 + size * n)
-        }
-    }
-}
-
-// The event of a number in the IFFT block: a direct event.
-pub fn ifft_event(b: &[u8], n: usize) -> Evented
-    ensures { λ r. ⌜ r ≡ eventOf (now (b .entry)) n ⌝ }
-{
-    event_in(b, ifft_at(b, n, 5, 85, 3))
-}
-
-fn word_at(b: &[u8], at: usize) -> u16
-    requires { ⌜ at + 2 ≤ length (now b) ⌝ }
-    ensures { λ r. ⌜ r ≡ wordAt (now (b .entry)) at ⌝ }
-{
-    base::word_of(b[at], b[at + 1])
-}
-
-fn item_at(b: &[u8], at: usize) -> MatrixItem
-    requires { ⌜ at + 4 ≤ length (now b) ⌝ }
-    ensures { λ r. ⌜ r ≡ itemAt (now (b .entry)) at ⌝ }
-{
-    let first = word_at(b, at);
-    let second = word_at(b, at + 2);
-    MatrixItem {
-        first,
-        second,
-        good: u16::count_ones(second) % 2 == 0,
-    }
-}
-
-// The matrix item of a number in the IFFT block.
-pub fn ifft_item(b: &[u8], n: usize) -> Itemed
-    ensures { λ r. ⌜ r ≡ itemOf (now (b .entry)) n ⌝ }
-{
-    let entry = ifft_at(b, n, 6, 64, 4);
+    let entry = direct_at(b, n);
     match entry {
         Entry::At(at) => {
-            let item = item_at(b, at);
-            Itemed::Is(item)
+            let event = event_from(b[at], b[at + 1], b[at + 2]);
+            Evented::Is(event)
         }
-        Entry::Refused(r) => Itemed::Refused(r),
+        Entry::Refused(r) => Evented::Refused(r),
     }
 }

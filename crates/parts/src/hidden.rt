@@ -9,7 +9,7 @@ use block::Part;
 use naming::Listed;
 
 fn is_hidden(b: &[u8], part: Part) -> bool {
-    match block::locate(b, part) {
+    match locating::locate(b, part) {
         Located::At(_, _) => false,
         Located::Refused(why) => block::number(why) == 23,
     }
@@ -71,7 +71,7 @@ fn say_two(name: &[u8], d1: u8, d2: u8) {
 
 // What the block is found to be, and what is hidden.
 fn say_layout(b: &[u8]) {
-    match block::layout_of(b) {
+    match locating::layout_of(b) {
         Layout::Is(kind, d1, d2) => {
             print::text(b" read as ");
             print::kind(kind);

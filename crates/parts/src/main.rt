@@ -5,13 +5,13 @@ mod blocks; // blocks.rt: a block of each kind
 mod table; // table.rt: where each part stands
 mod hidden; // hidden.rt: what each descriptor bit hides
 mod events; // events.rt: direct events by number, and every direction
-mod ifft; // ifft.rt: the IFFT block
+mod entries; // entries.rt: the IFFT block
 mod refused; // refused.rt: blocks that are none, and the order of the refusals
 
 fn main() {
     table::run();
     hidden::run();
     events::run();
-    ifft::run();
+    entries::run();
     refused::run();
 }

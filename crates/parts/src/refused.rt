@@ -15,7 +15,7 @@ fn say(why: block::Refusal) {
 
 fn say_part(name: &[u8], b: &[u8], part: Part) {
     print::text(name);
-    match block::locate(b, part) {
+    match locating::locate(b, part) {
         Located::At(_, _) => print::text(b" found"),
         Located::Refused(why) => say(why),
     }
@@ -44,8 +44,8 @@ fn ask(b: &[u8]) {
     say_part(b", SGL0", b, Part::Sgl0);
     say_event(b", event 0", event::direct_event(b, 0));
     say_event(b", event 106", event::direct_event(b, 106));
-    say_event(b", IFFT event 0", event::ifft_event(b, 0));
-    say_item(b", IFFT item 0", event::ifft_item(b, 0));
+    say_event(b", IFFT event 0", ifft::ifft_event(b, 0));
+    say_item(b", IFFT item 0", ifft::ifft_item(b, 0));
     print::text(b"\n");
 }
 

@@ -17,7 +17,7 @@ fn ends(bytes: &[u8]) {
 
 // The rest of a line: place in hex, length, first and last byte; or the refusal.
 fn show(b: &[u8], part: Part) {
-    let place = block::locate(b, part);
+    let place = locating::locate(b, part);
     match place {
         Located::At(at, n) => {
             print::hex(b" at ", at, 3);
@@ -25,7 +25,7 @@ fn show(b: &[u8], part: Part) {
         }
         Located::Refused(why) => print::refused(why),
     }
-    ends(block::slice_of(b, place));
+    ends(locating::slice_of(b, place));
     print::text(b"\n");
 }
 

@@ -1,0 +1,2 @@
+-- Single outcome of the functions of the IFFT block.
+pub mod Single
