@@ -1,4 +1,4 @@
-// The bench: one rig and one desk, and a function for each thing that happens to the rig alone. Crate `slots` has those that reach the desk.
+// The bench: one rig and one desk, and a function for each thing that happens to the rig alone. Crates `slots` and `passing` have those that reach the desk.
 // Keeps 01 whole: the demands are said of these functions' definitions. Rig and desk go in by value and come back.
 ghost use mathlib.Core.Path.{_≡_};
 ghost use Rattle.bench.specs.Bench.{freshBench, wordedOf, spunBench, setBench, cutBench};

@@ -224,7 +224,7 @@ fn plain_cell(old: [Cell; ITEMS], item: Item, frame: &[u8]) -> Cell
     ensures { λ r. ⌜ r ≡ cellAfter (plainOf (readOf (now (frame .entry)) (rowOf item))) (getD old (rowOf item) blank) ⌝ }
 {
     next(
-        plain(frame::read(frame, item)),
+        plain(reading::read(frame, item)),
         cell_at(old, frame::row_of(item)),
     )
 }

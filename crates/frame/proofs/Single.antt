@@ -9,13 +9,10 @@ use Rattle.base.proofs.Single.{same}
 use Rattle.frame.specs.declared.Item.{Item}
 use Rattle.frame.specs.declared.Refusal.{Refusal}
 use Rattle.frame.specs.declared.Arrived.{Arrived}
-use Rattle.frame.specs.declared.Reading.{Reading}
 use Rattle.frame.proofs.number.Reads as number
 use Rattle.frame.proofs.row_of.Reads as row-of
 use Rattle.frame.proofs.arrival.Kinds as arrival-kinds
 use Rattle.frame.proofs.arrival.Reads as arrival
-use Rattle.frame.proofs.read.Kinds as read-kinds
-use Rattle.frame.proofs.read.Reads as read
 
 pub number-one : (f : Refusal) (r q : ℕ) → number.Post tt (f, tt) r (f, tt) → number.Post tt (f, tt) q (f, tt) → r ≡ q
 number-one f r q m n = same m n
@@ -27,7 +24,3 @@ module _ (κs : Lfts 1) where
   pub arrival-one : (a : Dens κs arrival-kinds.ps) (e f : AtExit (endedOf 1 arrival-kinds.ps arrival-kinds.r) κs) (r q : Arrived)
       → arrival.Post κs a r e → arrival.Post κs a q f → r ≡ q
   arrival-one a e f r q m n = same m n
-
-  pub read-one : (a : Dens κs read-kinds.ps) (e f : AtExit (endedOf 1 read-kinds.ps read-kinds.r) κs) (r q : Reading)
-      → read.Post κs a r e → read.Post κs a q f → r ≡ q
-  read-one a e f r q m n = same m n

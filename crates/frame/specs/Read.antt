@@ -10,7 +10,6 @@ use Rattle.frame.specs.declared.Arrived.{Arrived}
 use Rattle.frame.specs.declared.Arrived.the-variants.{Whole, FillC0, FillFF, Refused}
 use Rattle.frame.specs.declared.Reading.{Reading}
 use Rattle.frame.specs.declared.Reading.the-variants.{Nothing, Value}
-use Rattle.frame.specs.declared.Spot.{Spot}
 use Rattle.frame.specs.Items.{items, numbered}
 
 -- The frames that carry something: those whose index modulo `period` is `phase`.
@@ -134,13 +133,6 @@ bornOf k = getD (column (λ r. lastOf r .when .phase - firstOf r .when .phase) r
 -- an item that one frame brings whole; the others are spread over frames
 unfoldable pub isPlain : ℕ → Bool
 isPlain k = pick (ltb k items) (eqb (bornOf k) 0) false
-
--- what the code keeps of a row
-abbrev pub spot : ℕ → ℕ → ℕ → ℕ → ℕ → ℕ → Spot
-spot b d m p q a = record { byte = b; div = d; rem = m; period = p; phase = q; born = a }
-
-abbrev pub spotOf : ℕ → Spot
-spotOf k = spot (byteOf k) (divOf k) (remOf k) (periodOf k) (phaseOf k) (bornOf k)
 
 -- byte 0 (1F)
 abbrev pub indexOf : List ℕ → ℕ

@@ -62,7 +62,7 @@ fn all_heard(bench: Bench, times: u32) -> Bench {
     let mut i: u32 = 0;
     while i < times {
         let mut f = [0u8; 40];
-        b = slots::arrives(b, &mut f, 0).bench;
+        b = passing::arrives(b, &mut f, 0).bench;
         say_frame(&f);
         i += 1;
     }

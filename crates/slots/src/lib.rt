@@ -1,8 +1,8 @@
-// The slots between rig and desk: a frame built, bytes handed to the desk, a slot missed; and a frame built and handed on whole, or lost.
+// The slots between rig and desk: a frame built, bytes handed to the desk, a slot missed. Crate `passing` has a frame built and its slot passed at once.
 // Keeps 01 "The 40-byte frame"; the demands are said of these functions' definitions.
 ghost use mathlib.Core.Path.{_≡_};
 ghost use Rattle.sending.specs.Sending.{filledOf};
-ghost use Rattle.slots.specs.Slots.{builtBench, handedOf, missedBench, arrivedBench, lostBench};
+ghost use Rattle.slots.specs.Slots.{builtBench, handedOf, missedBench};
 use bench::Bench;
 use desk::Answer;
 use frame::Refusal;
@@ -70,51 +70,4 @@ pub fn miss(bench: Bench) -> Bench
     let was = bench.desk;
     let missed = desk::missed(was);
     Bench { rig, desk: missed }
-}
-
-// The next frame is built at a place of the caller's buffer, and from there handed to the desk whole.
-pub fn arrives(bench: Bench, buf: &mut [u8], at: usize) -> Passed
-    ensures { λ r. ⌜ (r ≡ arrivedBench bench (now (buf .entry)) at) × (now (buf .exit) ≡ filledOf (bench .rig) (now (buf .entry)) at) ⌝ }
-{
-    let sent = build(bench, buf, at);
-    let wrote = sent.wrote;
-    let after = sent.bench;
-    match wrote {
-        Wrote::Done => {
-            let end = at + 40;
-            let h = hand(after, &buf[at..end]);
-            let next = h.bench;
-            let answer = h.answer;
-            Passed {
-                bench: next,
-                outcome: Outcome::Slot(answer),
-            }
-        }
-        Wrote::Refused(why) => Passed {
-            bench: after,
-            outcome: Outcome::NoFrame(why),
-        },
-    }
-}
-
-// The next frame is built at a place of the caller's buffer, and its slot is marked missed. Where there is no room (18) no slot passes.
-pub fn lost(bench: Bench, buf: &mut [u8], at: usize) -> Passed
-    ensures { λ r. ⌜ (r ≡ lostBench bench (now (buf .entry)) at) × (now (buf .exit) ≡ filledOf (bench .rig) (now (buf .entry)) at) ⌝ }
-{
-    let sent = build(bench, buf, at);
-    let wrote = sent.wrote;
-    let after = sent.bench;
-    match wrote {
-        Wrote::Done => {
-            let gone = miss(after);
-            Passed {
-                bench: gone,
-                outcome: Outcome::Slot(Answer::Missed),
-            }
-        }
-        Wrote::Refused(why) => Passed {
-            bench: after,
-            outcome: Outcome::NoFrame(why),
-        },
-    }
 }

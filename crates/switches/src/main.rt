@@ -10,7 +10,7 @@ fn heard(bench: Bench) -> Desk {
     let mut i: u32 = 0;
     while i < 35 {
         let mut f = [0u8; 40];
-        b = slots::arrives(b, &mut f, 0).bench;
+        b = passing::arrives(b, &mut f, 0).bench;
         i += 1;
     }
     b.desk

@@ -1,9 +1,9 @@
--- `frame::field` meets its contract: the word lies within the 40 bytes.
+-- `reading::field` meets its contract: the word lies within the 40 bytes.
 -- Assumes nothing.
 use native.Mathlib.Omega.{arith}
 use borrow.Author.Needs.{needs}
-use Rattle.frame.proofs.field.Statement.{statement}
-use Rattle.frame.proofs.field.Tie as tie
+use Rattle.reading.proofs.field.Statement.{statement}
+use Rattle.reading.proofs.field.Tie as tie
 
 returns : tie.Need-returns
 returns c = rw (c .before .before .before .before .wide .ensures .0, c .before .before .wide2 .ensures .0)

@@ -1,13 +1,13 @@
--- `frame::spot_of` meets its contract: each arm gives the row of its own item.
+-- `reading::spot_of` meets its contract: each arm gives the row of its own item.
 -- Assumes nothing.
 use mathlib.Core.Path.{_≡_, _∙_, sym, ap}
 use borrow.Author.Needs.{needs}
 use Rattle.frame.specs.declared.Item.{Item}
-use Rattle.frame.specs.declared.Spot.{Spot}
+use Rattle.reading.specs.declared.Spot.{Spot}
 use Rattle.frame.specs.Items.{rowOf}
-use Rattle.frame.specs.Read.{spotOf}
-use Rattle.frame.proofs.spot_of.Statement.{statement}
-use Rattle.frame.proofs.spot_of.Tie as tie
+use Rattle.reading.specs.Spot.{spotOf}
+use Rattle.reading.proofs.spot_of.Statement.{statement}
+use Rattle.reading.proofs.spot_of.Tie as tie
 
 by : {s : Spot} {x y : Item} → s ≡ spotOf (rowOf y) → x ≡ y → s ≡ spotOf (rowOf x)
 by e q = e ∙ sym (ap (λ (x : Item). spotOf (rowOf x)) q)

@@ -1,4 +1,4 @@
--- `slots::arrives` meets its contract: a written frame had room, stands at the named place, and is what the desk is handed.
+-- `passing::arrives` meets its contract: a written frame had room, stands at the named place, and is what the desk is handed.
 -- Assumes nothing.
 use mathlib.Core.Path.{_≡_, sym, ap, _∙_}
 use Prim.Native.Nat.{_+_, _≤_}
@@ -10,10 +10,10 @@ use Rattle.frame.specs.declared.Wrote.the-variants.{Done}
 use Rattle.frame.specs.Write.{wroteOf}
 use Rattle.sending.specs.Sending.{nextFrame}
 use Rattle.desk.specs.Desk.{slotOf}
 use Rattle.slots.specs.declared.Sent.{Sent}
 use Rattle.slots.proofs.Place.{had-room, handed-on, refused}
-use Rattle.slots.proofs.arrives.Statement.{statement}
-use Rattle.slots.proofs.arrives.Tie as tie
+use Rattle.passing.proofs.arrives.Statement.{statement}
+use Rattle.passing.proofs.arrives.Tie as tie
 
 add-end : tie.Need-add-end
 add-end c =

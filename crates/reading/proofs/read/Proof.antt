@@ -1,4 +1,4 @@
--- `frame::read` meets its contract: the tests of `readOf`, each where the code makes it.
+-- `reading::read` meets its contract: the tests of `readOf`, each where the code makes it.
 -- Assumes nothing.
 use mathlib.Core.Path.{_≡_, ap, _∙_}
 use mathlib.Core.Bool.{true, false}
@@ -8,14 +8,15 @@ use lib.ListN.{getD}
 use denote.Ref.{now}
 use borrow.Author.Needs.{needs}
 use borrow.Author.Tests.{eq-eqb, ne-eqb, lt-ltb}
 use Rattle.frame.specs.declared.Item.{Item}
-use Rattle.frame.specs.declared.Spot.{Spot}
+use Rattle.reading.specs.declared.Spot.{Spot}
 use Rattle.frame.specs.declared.Reading.the-variants.{Value}
 use Rattle.frame.specs.Items.{rowOf}
-use Rattle.frame.specs.Read.{spotOf, fieldOf, isPlain, carries, readOf}
+use Rattle.frame.specs.Read.{fieldOf, isPlain, carries, readOf}
+use Rattle.reading.specs.Spot.{spotOf}
 use Rattle.frame.proofs.Rows.{row-lt, byte-lt, div-pos, rem-pos, period-pos}
-use Rattle.frame.proofs.read.Statement.{statement}
-use Rattle.frame.proofs.read.Tie as tie
+use Rattle.reading.proofs.read.Statement.{statement}
+use Rattle.reading.proofs.read.Tie as tie
 
 value : {m n : ℕ} → m ≡ n → Value m ≡ Value n
 value e = ap Value e

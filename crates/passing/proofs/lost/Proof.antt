@@ -1,4 +1,4 @@
--- `slots::lost` meets its contract: where the frame was written its slot is a miss, and where there was no room no slot passes.
+-- `passing::lost` meets its contract: where the frame was written its slot is a miss, and where there was no room no slot passes.
 -- Assumes nothing.
 use mathlib.Core.Path.{_≡_, sym, ap, _∙_}
 use borrow.Author.Needs.{needs}
@@ -8,10 +8,10 @@ use Rattle.frame.specs.Write.{wroteOf}
 use Rattle.desk.specs.declared.Answer.the-variants.{Missed}
 use Rattle.desk.specs.declared.Received.{Received}
 use Rattle.desk.specs.Desk.{missedOf}
 use Rattle.slots.specs.declared.Sent.{Sent}
 use Rattle.slots.proofs.Place.{lost-on, refused}
-use Rattle.slots.proofs.lost.Statement.{statement}
-use Rattle.slots.proofs.lost.Tie as tie
+use Rattle.passing.proofs.lost.Statement.{statement}
+use Rattle.passing.proofs.lost.Tie as tie
 
 returns : tie.Need-returns
 returns c =

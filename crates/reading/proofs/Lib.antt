@@ -1,0 +1,2 @@
+-- Single outcome of the reader.
+pub mod Single

@@ -1,0 +1,2 @@
+-- Where the code looks for an item.
+pub mod Spot
