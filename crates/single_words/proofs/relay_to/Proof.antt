@@ -1,8 +1,8 @@
--- `judge::relay_to` meets its contract: the supply is switched.
+-- `single_words::relay_to` meets its contract: the supply is switched.
 -- Assumes nothing.
 use borrow.Author.Needs.{needs}
-use Rattle.judge.proofs.relay_to.Statement.{statement}
-use Rattle.judge.proofs.relay_to.Tie as tie
+use Rattle.single_words.proofs.relay_to.Statement.{statement}
+use Rattle.single_words.proofs.relay_to.Tie as tie
 
 returns : tie.Need-returns
 returns c = simp (c .set-relay .ensures)

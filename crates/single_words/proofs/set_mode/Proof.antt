@@ -1,10 +1,10 @@
--- `judge::set_mode` meets its contract: one return for each of 0, 1 and the rest.
+-- `single_words::set_mode` meets its contract: one return for each of 0, 1 and the rest.
 -- Assumes nothing.
 use borrow.Author.Tests.{eq-eqb, ne-eqb}
 use Rattle.judge.specs.Commands.{modeCmd}
 use borrow.Author.Needs.{needs}
-use Rattle.judge.proofs.set_mode.Statement.{statement}
-use Rattle.judge.proofs.set_mode.Tie as tie
+use Rattle.single_words.proofs.set_mode.Statement.{statement}
+use Rattle.single_words.proofs.set_mode.Tie as tie
 
 returns : tie.Need-returns
 unfolding modeCmd

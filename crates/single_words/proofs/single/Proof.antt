@@ -1,10 +1,10 @@
--- `judge::single` meets its contract: one arm for each listed code, and one for the rest.
+-- `single_words::single` meets its contract: one arm for each listed code, and one for the rest.
 -- Assumes nothing.
 use borrow.Author.Tests.{ne-eqb}
 use Rattle.judge.specs.Commands.{singleOf}
 use borrow.Author.Needs.{needs}
-use Rattle.judge.proofs.single.Statement.{statement}
-use Rattle.judge.proofs.single.Tie as tie
+use Rattle.single_words.proofs.single.Statement.{statement}
+use Rattle.single_words.proofs.single.Tie as tie
 
 returns : tie.Need-returns
 unfolding singleOf

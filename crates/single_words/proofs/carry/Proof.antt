@@ -1,9 +1,9 @@
--- `judge::carry` meets its contract: each answer of the supply is its verdict.
+-- `single_words::carry` meets its contract: each answer of the supply is its verdict.
 -- Assumes nothing.
 use Rattle.judge.specs.Commands.{carried}
 use borrow.Author.Needs.{needs}
-use Rattle.judge.proofs.carry.Statement.{statement}
-use Rattle.judge.proofs.carry.Tie as tie
+use Rattle.single_words.proofs.carry.Statement.{statement}
+use Rattle.single_words.proofs.carry.Tie as tie
 
 returns : tie.Need-returns
 unfolding carried

@@ -1,9 +1,9 @@
--- `judge::set_relay` meets its contract: an arm for each order of the relay word.
+-- `single_words::set_relay` meets its contract: an arm for each order of the relay word.
 -- Assumes nothing.
 use mathlib.Core.Path.{sym, _∙_}
 use borrow.Author.Needs.{needs}
-use Rattle.judge.proofs.set_relay.Statement.{statement}
-use Rattle.judge.proofs.set_relay.Tie as tie
+use Rattle.single_words.proofs.set_relay.Statement.{statement}
+use Rattle.single_words.proofs.set_relay.Tie as tie
 
 returns : tie.Need-returns
 returns c = simp (c .relay-to .ensures, sym (c .before .before .before .relay-of .ensures) ∙ c .before .enum-told .given .1)

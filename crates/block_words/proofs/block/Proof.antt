@@ -1,10 +1,10 @@
--- `judge::block` meets its contract: one arm for each listed code, and one for the rest.
+-- `block_words::block` meets its contract: one arm for each listed code, and one for the rest.
 -- Assumes nothing.
 use borrow.Author.Tests.{ne-eqb}
 use Rattle.judge.specs.Commands.{blockOf}
 use borrow.Author.Needs.{needs}
-use Rattle.judge.proofs.block.Statement.{statement}
-use Rattle.judge.proofs.block.Tie as tie
+use Rattle.block_words.proofs.block.Statement.{statement}
+use Rattle.block_words.proofs.block.Tie as tie
 
 returns : tie.Need-returns
 unfolding blockOf
