@@ -1,3 +1,3 @@
 -- The laws of the command table, and single outcome.
 pub mod Table
-pub mod Outcome
+pub mod Single

@@ -28,7 +28,7 @@ pub fn spin(rig: Rig) -> Rig
 {
     let mut core = rig.core;
     let was = core.stop;
-    let s = supply::spun(was);
+    let s = stepping::spun(was);
     core.stop = s;
     let edbs = base::spin_more(rig.edbs);
     let mut next = rig;

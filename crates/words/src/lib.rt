@@ -94,7 +94,7 @@ fn fresh(rig: Rig, kind: Kind, high: u8, low: u8) -> Taken
     match kind {
         Kind::Single => {
             let core = rig.core;
-            settle(rig, high, judge::single(core, high % 64, low))
+            settle(rig, high, single_words::single(core, high % 64, low))
         }
         Kind::Head => begin(rig, high, low),
         Kind::Data => settle(rig, high, Verdict::Deny(Refusal::StrayWord)),
@@ -130,7 +130,7 @@ fn verdict(core: Core, p: Pending, judged: Judged) -> Verdict
     ensures { λ r. ⌜ r ≡ verdictOf judged core p ⌝ }
 {
     match judged {
-        Judged::Right => judge::block(core, p.head % 64, p.n, p.first, p.second),
+        Judged::Right => block_words::block(core, p.head % 64, p.n, p.first, p.second),
         Judged::Wrong => Verdict::Deny(Refusal::WrongCheck),
     }
 }

@@ -1,0 +1,2 @@
+-- Single outcome of the block's function.
+pub mod Single

@@ -1,0 +1,2 @@
+-- Single outcome of the spin's functions.
+pub mod Single
