@@ -17,13 +17,15 @@ use Rattle.frame.specs.Laws.{byte39}
 use Rattle.frame.proofs.Rows.{row-lt}
 use Rattle.frame.proofs.Came.{no-other}
 use Rattle.desk.specs.declared.Desk.{Desk}
-use Rattle.desk.specs.declared.Half.{Half}
-use Rattle.desk.specs.declared.Half.the-variants.{Nothing, Part}
-use Rattle.desk.specs.declared.Shown.{Shown}
-use Rattle.desk.specs.declared.Shown.the-variants.{Unknown, Known}
+use Rattle.half.specs.declared.Half.{Half}
+use Rattle.half.specs.declared.Half.the-variants.{Nothing, Part}
+use Rattle.cell.specs.declared.Shown.{Shown}
+use Rattle.cell.specs.declared.Shown.the-variants.{Unknown, Known}
 use Rattle.desk.specs.declared.Received.{Received}
 use Rattle.desk.specs.declared.Answer.the-variants.{Heard}
-use Rattle.desk.specs.Desk.{agedOf, latestOf, joined, spreadOf, readingOf, keptAt, halfAt, halfAfter, blank, shownBy, freshDesk, shows, heardOf, slotOf}
+use Rattle.cell.specs.Cell.{agedOf, latestOf, blank, shownBy}
+use Rattle.half.specs.Half.{joined, spreadOf, keptAt, halfAt}
+use Rattle.desk.specs.Desk.{readingOf, halfAfter, freshDesk, shows, heardOf, slotOf}
 use Rattle.desk.specs.Laws.{answered}
 use Rattle.desk.proofs.Readings.{spread-is, once}
 use Rattle.desk.proofs.Laws.{laws as desk-laws}

@@ -13,8 +13,8 @@ use Rattle.frame.specs.Read.{allAre, arrivedOf, isPlain}
 use Rattle.desk.specs.declared.Answer.{Answer}
 use Rattle.desk.specs.declared.Answer.the-variants as desk
 use Rattle.desk.specs.declared.Received.{Received}
-use Rattle.desk.specs.declared.Shown.{Shown}
-use Rattle.desk.specs.declared.Shown.the-variants.{Unknown, Known}
+use Rattle.cell.specs.declared.Shown.{Shown}
+use Rattle.cell.specs.declared.Shown.the-variants.{Unknown, Known}
 use Rattle.desk.specs.Desk.{readingOf, halfAfter, cellsAfter, freshDesk, slotOf}
 use Rattle.power.specs.declared.PanelSetting.the-variants as panel
 use Rattle.rig.specs.declared.Rig.{Rig}

@@ -19,13 +19,14 @@ use Rattle.frame.specs.Read.{carries, bornOf, remOf, isPlain, indexOf, fieldOf}
 use Rattle.frame.specs.Write.{latchOf, muxOf, frameOf}
 use Rattle.frame.proofs.Rows.{plain-born, spread-rows}
 use Rattle.frame.proofs.Back.{field-back}
-use Rattle.desk.specs.declared.Shown.{Shown}
-use Rattle.desk.specs.declared.Shown.the-variants.{Unknown, Known}
-use Rattle.desk.specs.declared.SoFar.{SoFar}
-use Rattle.desk.specs.declared.SoFar.the-variants.{None, Bytes}
-use Rattle.desk.specs.declared.Half.{Half}
-use Rattle.desk.specs.declared.Half.the-variants.{Nothing, Part}
-use Rattle.desk.specs.Desk.{grownOf, joined, keptAt, partly, halfAt, halfAfter, readingOf, bornAt}
+use Rattle.cell.specs.declared.Shown.{Shown}
+use Rattle.cell.specs.declared.Shown.the-variants.{Unknown, Known}
+use Rattle.half.specs.declared.SoFar.{SoFar}
+use Rattle.half.specs.declared.SoFar.the-variants.{None, Bytes}
+use Rattle.half.specs.declared.Half.{Half}
+use Rattle.half.specs.declared.Half.the-variants.{Nothing, Part}
+use Rattle.half.specs.Half.{grownOf, joined, keptAt, partly, halfAt, bornAt}
+use Rattle.desk.specs.Desk.{halfAfter, readingOf}
 use Rattle.rig.specs.declared.Rig.{Rig}
 use Rattle.sending.specs.Sending.{heldOf, nextLatch, sent, nextFrame}
 use Rattle.demands.specs.History.{held, Slot, missed, whole}

@@ -7,11 +7,12 @@ use native.Mathlib.Omega.{arith}
 use lib.ListN.{length, getD-replicate}
 use borrow.Author.Tests.{lt-ltb}
 use Rattle.frame.specs.Items.{items}
-use Rattle.desk.specs.declared.Shown.{Shown}
+use Rattle.cell.specs.declared.Shown.{Shown}
 use Rattle.desk.specs.declared.Desk.{Desk}
 use Rattle.desk.specs.declared.Received.{Received}
-use Rattle.desk.specs.declared.Half.{Half}
-use Rattle.desk.specs.Desk.{latestOf, readingOf, halfAfter, slotOf, missedOf, heardOf, blank, shownBy, nothing, shows}
+use Rattle.half.specs.declared.Half.{Half}
+use Rattle.cell.specs.Cell.{latestOf, blank, shownBy}
+use Rattle.desk.specs.Desk.{readingOf, halfAfter, slotOf, missedOf, heardOf, nothing, shows}
 use Rattle.rig.specs.declared.Rig.{Rig}
 use Rattle.rig.specs.Words.{takeOf}
 use Rattle.power.specs.Power.{spunOf, setOf}

@@ -24,10 +24,10 @@ use Rattle.frame.specs.Read.{indexOf, isPlain, carries, bornOf}
 use Rattle.frame.proofs.Rows.{spread-items}
 use Rattle.frame.specs.Laws.{byte39}
 use Rattle.desk.specs.declared.Desk.{Desk}
-use Rattle.desk.specs.declared.Half.{Half}
+use Rattle.half.specs.declared.Half.{Half}
 use Rattle.desk.specs.declared.Answer.{Answer}
-use Rattle.desk.specs.declared.Shown.{Shown}
-use Rattle.desk.specs.declared.Shown.the-variants.{Known}
+use Rattle.cell.specs.declared.Shown.{Shown}
+use Rattle.cell.specs.declared.Shown.the-variants.{Known}
 use Rattle.desk.specs.declared.Received.{Received}
 use Rattle.desk.specs.Laws.{answered}
 use Rattle.judge.specs.declared.Settings.{Settings}

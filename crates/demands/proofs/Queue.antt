@@ -10,7 +10,7 @@ use Rattle.base.specs.declared.Frames.{Frames}
 use Rattle.frame.specs.declared.Item.{Item}
 use Rattle.frame.specs.Items.{rowOf}
 use Rattle.desk.specs.declared.Desk.{Desk}
-use Rattle.desk.specs.declared.Shown.the-variants.{Known}
+use Rattle.cell.specs.declared.Shown.the-variants.{Known}
 use Rattle.rig.specs.declared.Rig.{Rig}
 use Rattle.demands.specs.History.{Slot, missed, whole, held, Told}
 use Rattle.demands.specs.Outfit.{Outfit}

@@ -9,8 +9,8 @@ use Rattle.frame.specs.declared.Item.the-variants.{LongCounter}
 use Rattle.frame.specs.Items.{rowOf}
 use Rattle.frame.specs.Write.{quarterOf, groundAt, muxOf, frameOf}
 use Rattle.frame.specs.Read.{allAre, arrivedOf, isPlain}
-use Rattle.desk.specs.declared.Shown.{Shown}
-use Rattle.desk.specs.declared.Shown.the-variants.{Unknown, Known}
+use Rattle.cell.specs.declared.Shown.{Shown}
+use Rattle.cell.specs.declared.Shown.the-variants.{Unknown, Known}
 use Rattle.desk.specs.Desk.{readingOf, halfAfter, cellsAfter, slotOf}
 use Rattle.demands.specs.History.{missed, whole, Told}
 use Rattle.demands.specs.Outfit.{proved}

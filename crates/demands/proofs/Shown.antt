@@ -12,12 +12,12 @@ use lib.ListN.{drop}
 use lib.Seq.{drop-nil}
 use borrow.Author.Tests.{eq-eqb, eqb-true}
 use Rattle.frame.specs.Items.{items}
-use Rattle.desk.specs.declared.Shown.{Shown}
-use Rattle.desk.specs.declared.Shown.the-variants.{Unknown, Known}
+use Rattle.cell.specs.declared.Shown.{Shown}
+use Rattle.cell.specs.declared.Shown.the-variants.{Unknown, Known}
 use Rattle.base.specs.Pick.{pick}
 use Rattle.base.specs.Counts.{frames}
 use Rattle.frame.specs.Read.{carries, bornOf, phaseOf, periodOf}
-use Rattle.desk.specs.Desk.{agedOf, latestOf}
+use Rattle.cell.specs.Cell.{agedOf, latestOf}
 use Rattle.base.proofs.Table.{below}
 use Rattle.rig.specs.declared.Rig.{Rig}
 use Rattle.demands.specs.History.{held, Slot, missed, whole, Unbroken, one, more, Brings, Told, not-yet, latest}

@@ -10,12 +10,13 @@ use native.Mathlib.Decide.{le-ind}
 use lib.Dec.{T, eqb, leb, ltb, leb→le, ltb→lt}
 use lib.ListN.{replicate}
 use Rattle.frame.specs.Items.{items}
-use Rattle.desk.specs.declared.Shown.the-variants.{Unknown, Known}
+use Rattle.cell.specs.declared.Shown.the-variants.{Unknown, Known}
 use Rattle.base.specs.declared.Frames.{Frames}
 use Rattle.base.specs.Pick.{pick}
 use Rattle.base.specs.Counts.{frames}
 use Rattle.frame.specs.Read.{carries, bornOf, phaseOf}
-use Rattle.desk.specs.Desk.{agedOf, latestOf, shows}
+use Rattle.cell.specs.Cell.{agedOf, latestOf}
+use Rattle.desk.specs.Desk.{shows}
 use Rattle.base.proofs.Table.{below, is-true}
 use Rattle.rig.specs.declared.Rig.{Rig}
 use Rattle.sending.specs.Sending.{sent}

@@ -14,10 +14,10 @@ use Rattle.frame.specs.Items.{rowOf}
 use Rattle.frame.specs.Read.{indexOf, fieldOf, isPlain, carries}
 use Rattle.frame.specs.Laws.{byte39, Alike}
 use Rattle.desk.specs.declared.Desk.{Desk}
-use Rattle.desk.specs.declared.Half.{Half}
-use Rattle.desk.specs.declared.Half.the-variants.{Nothing, Part}
-use Rattle.desk.specs.declared.Shown.{Shown}
-use Rattle.desk.specs.declared.Shown.the-variants.{Unknown, Known}
+use Rattle.half.specs.declared.Half.{Half}
+use Rattle.half.specs.declared.Half.the-variants.{Nothing, Part}
+use Rattle.cell.specs.declared.Shown.{Shown}
+use Rattle.cell.specs.declared.Shown.the-variants.{Unknown, Known}
 use Rattle.demands.specs.Outfit.{Outfit, fillC0, fillFF}
 
 -- a whole frame: 40 bytes that are neither fill

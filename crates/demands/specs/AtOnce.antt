@@ -9,7 +9,7 @@ use Rattle.base.specs.Counts.{frames}
 use Rattle.frame.specs.declared.Item.{Item}
 use Rattle.frame.specs.Items.{rowOf}
 use Rattle.desk.specs.declared.Desk.{Desk}
-use Rattle.desk.specs.declared.Shown.the-variants.{Known}
+use Rattle.cell.specs.declared.Shown.the-variants.{Known}
 use Rattle.power.specs.declared.PanelSetting.{PanelSetting}
 use Rattle.rig.specs.declared.Rig.{Rig}
 use Rattle.laws.specs.Runs.{FitsPanel}

@@ -8,7 +8,7 @@ use lib.ListN.{replicate}
 use Rattle.base.specs.declared.Frames.{Frames}
 use Rattle.frame.specs.declared.Item.{Item}
 use Rattle.frame.specs.Items.{rowOf}
-use Rattle.desk.specs.declared.Shown.the-variants.{Known}
+use Rattle.cell.specs.declared.Shown.the-variants.{Known}
 use Rattle.demands.specs.History.{held, Told}
 use Rattle.demands.specs.Outfit.{Outfit}
 use Rattle.demands.specs.Queue.{Line, Step, begin, steps, Beat, build, hand, beats, builds}

@@ -11,13 +11,14 @@ use Rattle.base.specs.Counts.{frames}
 use Rattle.frame.specs.declared.Item.{Item}
 use Rattle.frame.specs.Items.{rowOf}
 use Rattle.desk.specs.declared.Desk.{Desk}
-use Rattle.desk.specs.declared.Cell.{Cell}
-use Rattle.desk.specs.declared.Shown.{Shown}
-use Rattle.desk.specs.declared.Shown.the-variants.{Unknown, Known}
+use Rattle.cell.specs.declared.Cell.{Cell}
+use Rattle.cell.specs.declared.Shown.{Shown}
+use Rattle.cell.specs.declared.Shown.the-variants.{Unknown, Known}
 use Rattle.desk.specs.declared.Answer.{Answer}
 use Rattle.desk.specs.declared.Answer.the-variants.{Heard, Missed, Refused}
 use Rattle.desk.specs.declared.Received.{Received}
-use Rattle.desk.specs.Desk.{shownBy, freshDesk, slotOf, missedOf, shows}
+use Rattle.cell.specs.Cell.{shownBy}
+use Rattle.desk.specs.Desk.{freshDesk, slotOf, missedOf, shows}
 use Rattle.desk.specs.Laws.{answered}
 use Rattle.judge.specs.declared.Refusal.{Refusal}
 use Rattle.rig.specs.declared.Rig.{Rig}

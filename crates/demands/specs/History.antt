@@ -7,8 +7,8 @@ use lib.ListN.{drop}
 use Rattle.base.specs.Counts.{frames, ceiling}
 use Rattle.frame.specs.Items.{heldAt}
 use Rattle.frame.specs.Read.{periodOf, phaseOf, bornOf}
-use Rattle.desk.specs.declared.Shown.{Shown}
-use Rattle.desk.specs.declared.Shown.the-variants.{Unknown, Known}
+use Rattle.cell.specs.declared.Shown.{Shown}
+use Rattle.cell.specs.declared.Shown.the-variants.{Unknown, Known}
 use Rattle.rig.specs.declared.Rig.{Rig}
 use Rattle.sending.specs.Sending.{heldOf}
 

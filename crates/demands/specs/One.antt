@@ -5,7 +5,7 @@ use mathlib.Core.List.{List, [], _∷_}
 use Prim.Native.Nat.{ℕ}
 use Rattle.frame.specs.declared.Item.{Item}
 use Rattle.desk.specs.declared.Desk.{Desk}
-use Rattle.desk.specs.declared.Shown.{Shown}
+use Rattle.cell.specs.declared.Shown.{Shown}
 use Rattle.desk.specs.declared.Received.{Received}
 use Rattle.desk.specs.Desk.{freshDesk, slotOf}
 use Rattle.power.specs.declared.PanelSetting.{PanelSetting}

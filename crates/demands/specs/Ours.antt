@@ -31,7 +31,7 @@ use Rattle.sending.specs.declared.Built.{Built}
 use Rattle.sending.proofs.build.Reads as build-fn
 use Rattle.sending.proofs.build.Kinds as build-kinds
 use Rattle.desk.specs.declared.Desk.{Desk}
-use Rattle.desk.specs.declared.Shown.{Shown}
+use Rattle.cell.specs.declared.Shown.{Shown}
 use Rattle.desk.specs.declared.Received.{Received}
 use Rattle.desk.proofs.fresh.Reads as fresh-fn
 use Rattle.desk.proofs.slot.Reads as slot-fn

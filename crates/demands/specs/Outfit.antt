@@ -6,7 +6,7 @@ use lib.ListN.{replicate}
 use Rattle.frame.specs.declared.Item.{Item}
 use Rattle.frame.specs.Items.{rowOf}
 use Rattle.desk.specs.declared.Desk.{Desk}
-use Rattle.desk.specs.declared.Shown.{Shown}
+use Rattle.cell.specs.declared.Shown.{Shown}
 use Rattle.desk.specs.declared.Received.{Received}
 use Rattle.desk.specs.Desk.{freshDesk, slotOf, missedOf, shows}
 use Rattle.rig.specs.declared.Rig.{Rig}

@@ -14,10 +14,11 @@ use Rattle.base.specs.Pick.{pick}
 use Rattle.base.proofs.Cases.{split}
 use Rattle.base.specs.Counts.{ceiling}
 use Rattle.frame.specs.Items.{items}
-use Rattle.desk.specs.declared.Shown.{Shown}
-use Rattle.desk.specs.declared.Shown.the-variants.{Unknown, Known}
-use Rattle.desk.specs.declared.Cell.{Cell}
-use Rattle.desk.specs.Desk.{agedOf, latestOf, blank, cellOf, shownBy, cellAfter, cellsFrom, cellsAfter, nothing}
+use Rattle.cell.specs.declared.Shown.{Shown}
+use Rattle.cell.specs.declared.Shown.the-variants.{Unknown, Known}
+use Rattle.cell.specs.declared.Cell.{Cell}
+use Rattle.cell.specs.Cell.{agedOf, latestOf, blank, cellOf, shownBy, cellAfter}
+use Rattle.desk.specs.Desk.{cellsFrom, cellsAfter, nothing}
 
 -- within a list it is all one what stands beyond it
 pub within : (cs : List Cell) (k : ℕ) (a b : Cell) → k < length cs → getD cs k a ≡ getD cs k b

@@ -14,10 +14,11 @@ use Rattle.base.proofs.Table.{below}
 use Rattle.frame.specs.Items.{items}
 use Rattle.frame.specs.Read.{indexOf, carries, periodOf, phaseOf, bornOf, isPlain, readOf}
 use Rattle.frame.proofs.Rows.{spread-rows}
-use Rattle.desk.specs.declared.Half.{Half}
-use Rattle.desk.specs.declared.SoFar.{SoFar}
-use Rattle.desk.specs.declared.SoFar.the-variants.{None, Bytes}
-use Rattle.desk.specs.Desk.{bornAt, grownOf, plainOf, spreadOf, toldBy, readingOf, halfAt, halfAfter}
+use Rattle.half.specs.declared.Half.{Half}
+use Rattle.half.specs.declared.SoFar.{SoFar}
+use Rattle.half.specs.declared.SoFar.the-variants.{None, Bytes}
+use Rattle.half.specs.Half.{bornAt, grownOf, spreadOf, halfAt}
+use Rattle.desk.specs.Desk.{plainOf, toldBy, readingOf, halfAfter}
 use Rattle.desk.proofs.Cells.{Fits}
 
 -- a plain item is what `frame` reads

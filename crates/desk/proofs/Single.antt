@@ -6,7 +6,7 @@ use denote.Triple.Clauses.{AtExit}
 use borrow.Fn.Kinds.{Dens, endedOf}
 use Rattle.base.proofs.Single.{same}
 use Rattle.frame.specs.declared.Item.{Item}
-use Rattle.desk.specs.declared.Shown.{Shown}
+use Rattle.cell.specs.declared.Shown.{Shown}
 use Rattle.desk.specs.declared.Desk.{Desk}
 use Rattle.desk.specs.declared.Received.{Received}
 use Rattle.desk.proofs.fresh.Reads as fresh

@@ -16,11 +16,12 @@ use Rattle.frame.specs.Laws.{spreads, byte39, Alike}
 use Rattle.frame.proofs.Tells.{pick-same}
 use Rattle.frame.proofs.Rows.{spread-rows}
 use Rattle.frame.proofs.Unread.{index-same, read-same, spread-same}
-use Rattle.desk.specs.declared.Half.{Half}
-use Rattle.desk.specs.declared.Half.the-variants.{Nothing}
-use Rattle.desk.specs.declared.Shown.the-variants.{Unknown}
+use Rattle.half.specs.declared.Half.{Half}
+use Rattle.half.specs.declared.Half.the-variants.{Nothing}
+use Rattle.cell.specs.declared.Shown.the-variants.{Unknown}
 use Rattle.desk.specs.declared.Desk.{Desk}
-use Rattle.desk.specs.Desk.{bornAt, grownOf, keptAt, plainOf, partly, readingOf, halfAfter, heardOf}
+use Rattle.half.specs.Half.{bornAt, grownOf, keptAt, partly}
+use Rattle.desk.specs.Desk.{plainOf, readingOf, halfAfter, heardOf}
 use Rattle.desk.proofs.Cells.{cells-same}
 use Rattle.desk.proofs.Readings.{plain-is, spread-is, once}
 

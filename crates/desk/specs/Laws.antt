@@ -14,7 +14,8 @@ use Rattle.desk.specs.declared.Desk.{Desk}
 use Rattle.desk.specs.declared.Answer.{Answer}
 use Rattle.desk.specs.declared.Answer.the-variants.{Heard, Missed, Refused}
 use Rattle.desk.specs.declared.Received.{Received}
-use Rattle.desk.specs.Desk.{agedOf, latestOf, readingOf, blank, cellOf, shows, missedOf, heardOf, slotOf}
+use Rattle.cell.specs.Cell.{agedOf, latestOf, blank, cellOf}
+use Rattle.desk.specs.Desk.{readingOf, shows, missedOf, heardOf, slotOf}
 
 abbrev pub answered : Answer → Desk → Received
 answered a d = record { answer = a; desk = d }

@@ -1,8 +1,8 @@
 -- The laws of the sheet hold.
 -- Assumes nothing.
 use mathlib.Core.Path.{_≡_}
-use Rattle.desk.specs.declared.Shown.{Shown}
-use Rattle.desk.specs.declared.Shown.the-variants as shown
+use Rattle.cell.specs.declared.Shown.{Shown}
+use Rattle.cell.specs.declared.Shown.the-variants as shown
 use Rattle.sheet.specs.declared.Sheeted.{Sheeted}
 use Rattle.sheet.specs.declared.Sheeted.the-variants.{Unknown}
 use Rattle.sheet.specs.Sheeted.{InVolts}

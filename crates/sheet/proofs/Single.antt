@@ -5,8 +5,8 @@ use Rattle.frame.specs.declared.Item.the-variants.{Bias, Ground}
 use Rattle.frame.specs.Items.{rowOf}
 use Rattle.desk.specs.declared.Desk.{Desk}
 use Rattle.desk.specs.Desk.{shows}
-use Rattle.desk.specs.declared.Shown.{Shown}
-use Rattle.desk.specs.declared.Shown.the-variants as shown
+use Rattle.cell.specs.declared.Shown.{Shown}
+use Rattle.cell.specs.declared.Shown.the-variants as shown
 use Prim.Native.Nat.{_%_}
 use Rattle.volts.proofs.Single.{sheet-of-one}
 use Rattle.sheet.specs.declared.Sheeted.{Sheeted}

@@ -4,8 +4,8 @@ ghost use Rattle.frame.specs.declared.Item.the-variants.{Bias, Ground};
 ghost use Rattle.frame.specs.Items.{rowOf};
 ghost use Rattle.desk.specs.Desk.{shows};
 ghost use Rattle.sheet.specs.Sheeted.{InVolts};
+use cell::Shown;
 use desk::Desk;
-use desk::Shown;
 use frame::Item;
 use volts::Sheet;
 

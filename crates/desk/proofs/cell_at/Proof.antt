@@ -5,7 +5,7 @@ use native.Mathlib.Omega.{arith}
 use borrow.Author.Needs.{needs}
 use lib.ListN.{length, List·getD-eq-default}
 use Rattle.frame.specs.Items.{items}
-use Rattle.desk.specs.Desk.{blank}
+use Rattle.cell.specs.Cell.{blank}
 use Rattle.desk.proofs.Cells.{within}
 use Rattle.desk.proofs.cell_at.Statement.{statement}
 use Rattle.desk.proofs.cell_at.Tie as tie
@@ -19,7 +19,7 @@ returns c = let s = c .before .before in within (s .args .t1) (s .args .k) _ bla
 returns-2 : tie.Need-returns-2
 returns-2 c =
     let s = c .before .before in
-    c .cell-of .ensures ∙ sym (List·getD-eq-default (s .args .t1) blank (omega (arith, size s)))
+    c .blank .ensures ∙ sym (List·getD-eq-default (s .args .t1) blank (omega (arith, size s)))
 
 pub cell-at-spec : {M : Type 1} → statement M
 cell-at-spec = tie.close (tie.spec (λ c. search needs) (λ c. search needs) returns (λ c κs. search needs) returns-2)

@@ -6,8 +6,9 @@ use denote.Ref.{now}
 use borrow.Author.Needs.{needs}
 use lib.ListN.{getD}
 use Rattle.frame.specs.Read.{isPlain}
-use Rattle.desk.specs.declared.Cell.{Cell}
-use Rattle.desk.specs.Desk.{blank, toldBy, cellAfter, cellsAfter}
+use Rattle.cell.specs.declared.Cell.{Cell}
+use Rattle.cell.specs.Cell.{blank, cellAfter}
+use Rattle.desk.specs.Desk.{toldBy, cellsAfter}
 use Rattle.desk.proofs.Cells.{row}
 use Rattle.desk.proofs.cells_after.Statement.{statement}
 use Rattle.desk.proofs.cells_after.Tie as tie

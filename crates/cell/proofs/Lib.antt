@@ -1,0 +1,2 @@
+-- Single outcome of a cell's functions.
+pub mod Single

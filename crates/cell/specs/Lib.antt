@@ -1,0 +1,2 @@
+-- What is held of one item, and what it shows.
+pub mod Cell

@@ -1,0 +1,2 @@
+-- Single outcome of what is read of a spread number.
+pub mod Single

@@ -1,0 +1,2 @@
+-- A number spread over frames.
+pub mod Half
