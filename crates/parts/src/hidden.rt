@@ -1,7 +1,6 @@
 // What each bit of the two descriptors hides by itself, in NM and in BM1; and what some bits hide together.
 // Keeps 01 "Data blocks": test data hides parts (23).
-use super::blocks;
-use super::print;
+use super::table;
 use block::Kind;
 use block::Layout;
 use block::Located;
@@ -19,8 +18,8 @@ fn is_hidden(b: &[u8], part: Part) -> bool {
 fn say_if(b: &[u8], n: usize) -> bool {
     if let Listed::Is(part) = naming::part_in(n) {
         if is_hidden(b, part) {
-            print::text(b" ");
-            print::part(part);
+            printing::text(b" ");
+            table::say_name(part);
             return true;
         }
     }
@@ -29,7 +28,7 @@ fn say_if(b: &[u8], n: usize) -> bool {
 
 // The names of the hidden parts, to the end of the line.
 fn say_hidden(b: &[u8]) {
-    print::text(b" hides");
+    printing::text(b" hides");
     let mut none = true;
     let mut n: usize = 0;
     while n < naming::PARTS {
@@ -39,17 +38,17 @@ fn say_hidden(b: &[u8]) {
         n += 1;
     }
     if none {
-        print::text(b" nothing");
+        printing::text(b" nothing");
     }
-    print::text(b"\n");
+    printing::text(b"\n");
 }
 
 // A bit by itself, in the descriptor of this name.
 fn alone(kind: Kind, name: &[u8], bit: usize, d1: u8, d2: u8) {
-    let b = blocks::made(kind, d1, d2);
-    print::kind(kind);
-    print::number(name, bit);
-    say_hidden(blocks::first(&b, block::length_of(kind)));
+    let b = samples::made(kind, d1, d2);
+    samples::say_kind(kind);
+    printing::number_after(name, bit as u64);
+    say_hidden(locating::slice_of(&b, Located::At(0, block::length_of(kind))));
 }
 
 // The bit of this weight by itself, in each descriptor of each kind.
@@ -65,28 +64,28 @@ fn each(weights: &[u8]) {
 }
 
 fn say_two(name: &[u8], d1: u8, d2: u8) {
-    print::pair(name, d1);
-    print::pair(b" ", d2);
+    printing::hex_byte_after(name, d1);
+    printing::hex_byte_after(b" ", d2);
 }
 
 // What the block is found to be, and what is hidden.
 fn say_layout(b: &[u8]) {
     match locating::layout_of(b) {
         Layout::Is(kind, d1, d2) => {
-            print::text(b" read as ");
-            print::kind(kind);
+            printing::text(b" read as ");
+            samples::say_kind(kind);
             say_two(b" ", d1, d2);
         }
-        Layout::Bad(why) => print::refused(why),
+        Layout::Bad(why) => samples::say_refused(why),
     }
     say_hidden(b);
 }
 
 fn two(kind: Kind, d1: u8, d2: u8) {
-    let b = blocks::made(kind, d1, d2);
-    print::kind(kind);
+    let b = samples::made(kind, d1, d2);
+    samples::say_kind(kind);
     say_two(b" descriptors ", d1, d2);
-    say_layout(blocks::first(&b, block::length_of(kind)));
+    say_layout(locating::slice_of(&b, Located::At(0, block::length_of(kind))));
 }
 
 // Descriptor 1 and descriptor 2. In a dump the second is not looked at; else bits together hide what each of them hides.

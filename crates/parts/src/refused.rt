@@ -1,7 +1,5 @@
 // Bytes that are no block, each asked for a part, for events and for an item: what is wrong with the block comes first.
 // Keeps rows 19 to 21 of 01 "What the numbers mean", and its order: 20 (under 3), 19, 20, 21, 24, 22, 23.
-use super::blocks;
-use super::print;
 use block::Kind;
 use block::Located;
 use block::Part;
@@ -10,43 +8,43 @@ use event::Itemed;
 
 // What one asking got: the number of the refusal, or that it was found.
 fn say(why: block::Refusal) {
-    print::number(b" ", block::number(why) as usize);
+    printing::number_after(b" ", block::number(why) as u64);
 }
 
 fn say_part(name: &[u8], b: &[u8], part: Part) {
-    print::text(name);
+    printing::text(name);
     match locating::locate(b, part) {
-        Located::At(_, _) => print::text(b" found"),
+        Located::At(_, _) => printing::text(b" found"),
         Located::Refused(why) => say(why),
     }
 }
 
 fn say_event(name: &[u8], evented: Evented) {
-    print::text(name);
+    printing::text(name);
     match evented {
-        Evented::Is(_) => print::text(b" found"),
+        Evented::Is(_) => printing::text(b" found"),
         Evented::Refused(why) => say(why),
     }
 }
 
 fn say_item(name: &[u8], itemed: Itemed) {
-    print::text(name);
+    printing::text(name);
     match itemed {
-        Itemed::Is(_) => print::text(b" found"),
+        Itemed::Is(_) => printing::text(b" found"),
         Itemed::Refused(why) => say(why),
     }
 }
 
 // The rest of a line: what each asking gets. SGL0 is not in BM1, and event 106 in neither layout.
 fn ask(b: &[u8]) {
-    print::number(b", length ", b.len());
+    printing::number_after(b", length ", b.len() as u64);
     say_part(b": marker", b, Part::Marker);
     say_part(b", SGL0", b, Part::Sgl0);
     say_event(b", event 0", event::direct_event(b, 0));
     say_event(b", event 106", event::direct_event(b, 106));
     say_event(b", IFFT event 0", ifft::ifft_event(b, 0));
     say_item(b", IFFT item 0", ifft::ifft_item(b, 0));
-    print::text(b"\n");
+    printing::text(b"\n");
 }
 
 // A marker, then zeros, at each of these lengths. A BM1 block of zeros has no inner marker.
@@ -57,22 +55,22 @@ fn lengths(marker: [u8; 3], list: &[usize]) {
     b[2] = marker[2];
     let mut i: usize = 0;
     while i < list.len() {
-        print::pair(b"zeros after ", marker[0]);
-        print::pair(b"", marker[1]);
-        print::pair(b"", marker[2]);
-        ask(blocks::first(&b, list[i]));
+        printing::hex_byte_after(b"zeros after ", marker[0]);
+        printing::hex_byte_after(b"", marker[1]);
+        printing::hex_byte_after(b"", marker[2]);
+        ask(locating::slice_of(&b, Located::At(0, list[i])));
         i += 1;
     }
 }
 
 // A BM1 block with one byte set to 0, at a length.
 fn spoil(at: usize, d1: u8, n: usize) {
-    let mut b = blocks::made(Kind::Bm1, d1, 0);
+    let mut b = samples::made(Kind::Bm1, d1, 0);
     b[at % 2304] = 0;
-    print::pair(b"BM1 descriptor1 ", d1);
-    print::hex(b" byte ", at, 3);
-    print::text(b" wrong");
-    ask(blocks::first(&b, n));
+    printing::hex_byte_after(b"BM1 descriptor1 ", d1);
+    printing::hex_after(b" byte ", at as u64, 3);
+    printing::text(b" wrong");
+    ask(locating::slice_of(&b, Located::At(0, n)));
 }
 
 // The bytes of the two inner markers, each wrong by itself: in a block, in one that is too short, and in a memory dump.

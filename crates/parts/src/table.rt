@@ -1,17 +1,20 @@
 // Where each part of NM and of BM1 stands: place, length, first and last byte, or the number of the refusal.
 // Keeps 01 "Data blocks": the parts are those of G's two position tables.
-use super::blocks;
-use super::print;
 use block::Kind;
 use block::Located;
 use block::Part;
 use naming::Listed;
 
+pub(crate) fn say_name(part: Part) {
+    let name = naming::part_name(part);
+    printing::name(&name);
+}
+
 // The first byte and the last.
 fn ends(bytes: &[u8]) {
     if 0 < bytes.len() {
-        print::pair(b" bytes ", bytes[0]);
-        print::pair(b" ", bytes[bytes.len() - 1]);
+        printing::hex_byte_after(b" bytes ", bytes[0]);
+        printing::hex_byte_after(b" ", bytes[bytes.len() - 1]);
     }
 }
 
@@ -20,23 +23,26 @@ fn show(b: &[u8], part: Part) {
     let place = locating::locate(b, part);
     match place {
         Located::At(at, n) => {
-            print::hex(b" at ", at, 3);
-            print::number(b" length ", n);
+            printing::hex_after(b" at ", at as u64, 3);
+            printing::number_after(b" length ", n as u64);
         }
-        Located::Refused(why) => print::refused(why),
+        Located::Refused(why) => samples::say_refused(why),
     }
     ends(locating::slice_of(b, place));
-    print::text(b"\n");
+    printing::text(b"\n");
 }
 
 fn list(name: &[u8], kind: Kind, d1: u8, d2: u8) {
-    let b = blocks::made(kind, d1, d2);
+    let b = samples::made(kind, d1, d2);
     let mut n: usize = 0;
     while n < naming::PARTS {
         if let Listed::Is(part) = naming::part_in(n) {
-            print::text(name);
-            print::part(part);
-            show(blocks::first(&b, block::length_of(kind)), part);
+            printing::text(name);
+            say_name(part);
+            show(
+                locating::slice_of(&b, Located::At(0, block::length_of(kind))),
+                part,
+            );
         }
         n += 1;
     }

@@ -34,6 +34,21 @@ pub fn hex(n: u64, width: usize) {
     io::print_hex(STDOUT_FILENO, n, width);
 }
 
+// A number behind a text: in decimal; in so many hex digits; and a byte in two, with small letters.
+pub fn number_after(s: &[u8], n: u64) {
+    text(s);
+    number(n);
+}
+
+pub fn hex_after(s: &[u8], n: u64, width: usize) {
+    text(s);
+    hex(n, width);
+}
+
+pub fn hex_byte_after(s: &[u8], b: u8) {
+    hex_after(s, b as u64, 2);
+}
+
 // The last hex digit of a number, with 01's capital letters.
 fn digit(n: u8) -> u8 {
     let d = n % 16;

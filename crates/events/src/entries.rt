@@ -1,26 +1,25 @@
 // The IFFT block: events and matrix items by number, each ground on which it is refused, and the parity of an item.
 // Keeps 01 "Data blocks" (IFFT2) and rows 22 and 24 of "What the numbers mean".
-use super::blocks;
-use super::events;
-use super::print;
+use super::direct;
 use block::Kind;
+use block::Located;
 use event::Itemed;
 
 // To the end of the line.
 fn say_itemed(itemed: Itemed) {
     match itemed {
         Itemed::Is(item) => {
-            print::hex(b" words ", item.first as usize, 4);
-            print::hex(b" ", item.second as usize, 4);
+            printing::hex_after(b" words ", item.first as u64, 4);
+            printing::hex_after(b" ", item.second as u64, 4);
             if item.good {
-                print::text(b" good");
+                printing::text(b" good");
             } else {
-                print::text(b" bad");
+                printing::text(b" bad");
             }
         }
-        Itemed::Refused(why) => print::refused(why),
+        Itemed::Refused(why) => samples::say_refused(why),
     }
-    print::text(b"\n");
+    printing::text(b"\n");
 }
 
 // What is asked for: an event, or a matrix item.
@@ -32,11 +31,11 @@ enum Entry {
 fn say_entry(b: &[u8], entry: Entry, n: usize) {
     match entry {
         Entry::Event => {
-            print::number(b" IFFT event ", n);
-            events::say(ifft::ifft_event(b, n));
+            printing::number_after(b" IFFT event ", n as u64);
+            direct::say(ifft::ifft_event(b, n));
         }
         Entry::Item => {
-            print::number(b" IFFT item ", n);
+            printing::number_after(b" IFFT item ", n as u64);
             say_itemed(ifft::ifft_item(b, n));
         }
     }
@@ -44,14 +43,18 @@ fn say_entry(b: &[u8], entry: Entry, n: usize) {
 
 // A line: what 24 looks at, and the entry of a number.
 fn line(kind: Kind, entry: Entry, d1: u8, counter: u8, count: u8, n: usize) {
-    let mut b = blocks::made(kind, d1, 0);
+    let mut b = samples::made(kind, d1, 0);
     b[5] = counter;
     b[6] = count;
-    print::kind(kind);
-    print::pair(b" descriptor1 ", d1);
-    print::number(b" counter ", counter as usize);
-    print::number(b" count ", count as usize);
-    say_entry(blocks::first(&b, block::length_of(kind)), entry, n);
+    samples::say_kind(kind);
+    printing::hex_byte_after(b" descriptor1 ", d1);
+    printing::number_after(b" counter ", counter as u64);
+    printing::number_after(b" count ", count as u64);
+    say_entry(
+        locating::slice_of(&b, Located::At(0, block::length_of(kind))),
+        entry,
+        n,
+    );
 }
 
 // Descriptor 1, count and number, at a spin counter.
@@ -83,13 +86,13 @@ fn counters(entry: Entry, first: u8, count: u8) {
 
 // The one item of an IFFT block, with this second word.
 fn item(second: u16) {
-    let mut b = blocks::made(Kind::Nm, 0x01, 0);
+    let mut b = samples::made(Kind::Nm, 0x01, 0);
     b[5] = 6;
     b[6] = 1;
     b[0x022] = (second / 256) as u8;
     b[0x023] = (second % 256) as u8;
-    print::text(b"NM");
-    say_entry(blocks::first(&b, 512), Entry::Item, 0);
+    printing::text(b"NM");
+    say_entry(locating::slice_of(&b, Located::At(0, 512)), Entry::Item, 0);
 }
 
 // Good or bad by the ones of the second word, the top bit included.

@@ -1,19 +1,19 @@
--- `parts::entries::rows` is safe and ends: the measure is the rows that are left.
+-- `events::direct::tests` is safe and ends: the measure is the descriptors that are left.
 -- Assumes nothing.
 use Prim.Native.Nat.{_-_}
 use lib.ListN.{length}
 use borrow.Author.Needs.{needs}
-use Rattle.parts.proofs.entries.rows.Statement.{statement}
-use Rattle.parts.proofs.entries.rows.Tie as tie
+use Rattle.events.proofs.direct.tests.Statement.{statement}
+use Rattle.events.proofs.direct.tests.Tie as tie
 
 abbrev Inv-loop : tie.InvT-loop
-Inv-loop entry counter list i₀ i = Unit
+Inv-loop list i₀ t3 t4 i = Unit
 
 abbrev μ-loop : tie.MeasureT-loop
-μ-loop entry counter list i₀ i = length list - i
+μ-loop list i₀ t3 t4 i = length list - i
 
-pub rows-spec : {M : Type 1} → statement M
-rows-spec =
+pub tests-spec : {M : Type 1} → statement M
+tests-spec =
     tie.close
     (tie.spec
     Inv-loop
@@ -21,9 +21,7 @@ rows-spec =
     (λ c. search needs)
     (λ c. search needs)
     (λ c. search needs)
-    (λ c. search needs)
-    (λ c. search needs)
-    (λ c. search needs)
+    (λ c κs. search needs)
     (λ c. search needs)
     (λ c. search needs)
     (λ c κs. search needs)

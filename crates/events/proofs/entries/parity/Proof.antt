@@ -1,10 +1,10 @@
--- `parts::entries::parity` is safe and ends: the measure is the words that are left.
+-- `events::entries::parity` is safe and ends: the measure is the words that are left.
 -- Assumes nothing.
 use Prim.Native.Nat.{_-_}
 use lib.ListN.{length}
 use borrow.Author.Needs.{needs}
-use Rattle.parts.proofs.entries.parity.Statement.{statement}
-use Rattle.parts.proofs.entries.parity.Tie as tie
+use Rattle.events.proofs.entries.parity.Statement.{statement}
+use Rattle.events.proofs.entries.parity.Tie as tie
 
 abbrev Inv-loop : tie.InvT-loop
 Inv-loop words i₀ i = Unit

@@ -1,22 +1,21 @@
 // Direct events by number, in NM and in BM1: the first, the last, beyond it, and where test data hides them; and every direction.
 // Keeps 01 "Data blocks": a direct event is energy, time, sector and D; rows 22 and 23 of "What the numbers mean".
-use super::blocks;
-use super::print;
 use block::Kind;
+use block::Located;
 use event::Direction;
 use event::Evented;
 
 fn say_direction(direction: Direction) {
     match direction {
         Direction::Head(head, finer) => {
-            print::number(b" head ", head as usize);
-            print::number(b" finer ", finer as usize);
+            printing::number_after(b" head ", head as u64);
+            printing::number_after(b" finer ", finer as u64);
         }
         Direction::HeadOnly(head) => {
-            print::number(b" head ", head as usize);
-            print::text(b" alone");
+            printing::number_after(b" head ", head as u64);
+            printing::text(b" alone");
         }
-        Direction::Unknown => print::text(b" unknown"),
+        Direction::Unknown => printing::text(b" unknown"),
     }
 }
 
@@ -25,25 +24,28 @@ pub(crate) fn say(evented: Evented) {
     match evented {
         Evented::Is(event) => {
             let direction = event.direction;
-            print::pair(b" energy ", event.energy);
-            print::pair(b" time ", event.time);
-            print::number(b" sector ", event.sector as usize);
+            printing::hex_byte_after(b" energy ", event.energy);
+            printing::hex_byte_after(b" time ", event.time);
+            printing::number_after(b" sector ", event.sector as u64);
             say_direction(direction);
         }
-        Evented::Refused(why) => print::refused(why),
+        Evented::Refused(why) => samples::say_refused(why),
     }
-    print::text(b"\n");
+    printing::text(b"\n");
 }
 
 // A line for each number: kind, descriptor 1, and the event.
 fn numbers(kind: Kind, d1: u8, list: &[usize]) {
-    let b = blocks::made(kind, d1, 0);
+    let b = samples::made(kind, d1, 0);
     let mut i: usize = 0;
     while i < list.len() {
-        print::kind(kind);
-        print::pair(b" descriptor1 ", d1);
-        print::number(b" direct event ", list[i]);
-        say(event::direct_event(blocks::first(&b, block::length_of(kind)), list[i]));
+        samples::say_kind(kind);
+        printing::hex_byte_after(b" descriptor1 ", d1);
+        printing::number_after(b" direct event ", list[i] as u64);
+        say(event::direct_event(
+            locating::slice_of(&b, Located::At(0, block::length_of(kind))),
+            list[i],
+        ));
         i += 1;
     }
 }
@@ -60,10 +62,10 @@ fn tests(list: &[u8]) {
 
 // D as the low four bits of an event's third byte, beside another number as its sector.
 fn direction(d: u8) {
-    let mut b = blocks::made(Kind::Nm, 0, 0);
+    let mut b = samples::made(Kind::Nm, 0, 0);
     b[0x00C] = (15 - d % 16) * 16 + d % 16;
-    print::number(b"D ", d as usize);
-    say(event::direct_event(blocks::first(&b, 512), 0));
+    printing::number_after(b"D ", d as u64);
+    say(event::direct_event(locating::slice_of(&b, Located::At(0, 512)), 0));
 }
 
 fn directions() {

@@ -1,9 +1,9 @@
--- `parts::entries::counters` is safe and ends: the measure is the counters that are left.
+-- `events::entries::counters` is safe and ends: the measure is the counters that are left.
 -- Assumes nothing.
 use Prim.Native.Nat.{_-_}
 use borrow.Author.Needs.{needs}
-use Rattle.parts.proofs.entries.counters.Statement.{statement}
-use Rattle.parts.proofs.entries.counters.Tie as tie
+use Rattle.events.proofs.entries.counters.Statement.{statement}
+use Rattle.events.proofs.entries.counters.Tie as tie
 
 abbrev Inv-loop : tie.InvT-loop
 Inv-loop entry first count counter₀ counter = Unit

@@ -1,10 +1,10 @@
--- `parts::events::numbers` is safe and ends: the measure is the numbers that are left.
+-- `events::direct::numbers` is safe and ends: the measure is the numbers that are left.
 -- Assumes nothing.
 use Prim.Native.Nat.{_-_}
 use lib.ListN.{length}
 use borrow.Author.Needs.{needs}
-use Rattle.parts.proofs.events.numbers.Statement.{statement}
-use Rattle.parts.proofs.events.numbers.Tie as tie
+use Rattle.events.proofs.direct.numbers.Statement.{statement}
+use Rattle.events.proofs.direct.numbers.Tie as tie
 
 abbrev Inv-loop : tie.InvT-loop
 Inv-loop kind d1 list b i₀ t6 t7 i = Unit

@@ -1,9 +1,9 @@
--- `parts::events::directions` is safe and ends: the measure is the directions that are left.
+-- `events::direct::directions` is safe and ends: the measure is the directions that are left.
 -- Assumes nothing.
 use Prim.Native.Nat.{_-_}
 use borrow.Author.Needs.{needs}
-use Rattle.parts.proofs.events.directions.Statement.{statement}
-use Rattle.parts.proofs.events.directions.Tie as tie
+use Rattle.events.proofs.direct.directions.Statement.{statement}
+use Rattle.events.proofs.direct.directions.Tie as tie
 
 abbrev Inv-loop : tie.InvT-loop
 Inv-loop d₀ d = Unit

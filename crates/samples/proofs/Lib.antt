@@ -1,0 +1,2 @@
+-- Single outcome of the sample block.
+pub mod Single

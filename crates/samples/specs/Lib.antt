@@ -1,0 +1,2 @@
+-- What a sample block is.
+pub mod Made
