@@ -6,7 +6,7 @@ use mathlib.Core.List.{List, [], _∷_}
 use Prim.Native.Nat.{ℕ, suc, _+_, _*_, _/_, _≤_, _<_}
 use native.Mathlib.Nat.{mul-le-mul, mul-le-mul-left, mul-suc}
 use native.Mathlib.Omega.{arith}
-use borrow.Author.Tests.{eqb-true, ltb-false, leb-false, not-false}
+use borrow.Author.Tests.{eqb-true, ltb-false, leb-false, le-leb, not-false}
 use lib.Dec.{eqb, leb, ltb}
 use lib.ListN.{length, getD}
 use Rattle.base.proofs.Cases.{split}
@@ -28,11 +28,13 @@ use Rattle.block.specs.Parts.{hidden, placeOf}
 use Rattle.block.proofs.Laws.{Passed, through, placed, refused-at}
 use Rattle.event.specs.declared.Entry.{Entry}
 use Rattle.event.specs.declared.Entry.the-variants.{At, Refused}
+use Rattle.event.specs.declared.Evented.{Evented}
+use Rattle.event.specs.declared.Evented.the-variants as E
 use Rattle.event.specs.declared.Itemed.{Itemed}
 use Rattle.event.specs.declared.Itemed.the-variants as I
-use Rattle.event.specs.Event.{eventsIn, directTests, directOf}
+use Rattle.event.specs.Event.{eventAt, eventIn, eventsIn, directTests, directOf}
 use Rattle.event.specs.Ifft.{isNm, turn, wrong, ifftTests, eventOf, itemAt, itemOf}
-use Rattle.event.specs.Steps.{directAt, ifftAt, reach, eventIn}
+use Rattle.event.specs.Steps.{directAt, ifftAt, reach}
 
 pub nm-events : eventsIn Nm ≡ 20
 nm-events = refl
@@ -177,14 +179,27 @@ module _ (k : Kind) (d1 d2 n : ℕ) where
       let l = longest k in
       omega (arith, f .2)
 
+-- an event whose bytes are all there
+abbrev wholeIn : List ℕ → Entry → Evented
+wholeIn b (At at) = E.Is (eventAt b at)
+wholeIn b (Refused r) = E.Refused r
+
+whole : (b : List ℕ) (e : Entry) → reach e 3 ≤ length b → eventIn b e ≡ wholeIn b e
+whole b (At at) h = simp (le-leb (at + 3) (length b) h)
+whole b (Refused r) h = refl
+
 -- what is read at an entry is what is asked for
 pub direct-is : (b : List ℕ) (n : ℕ) → eventIn b (directAt b n) ≡ directOf b n
 unfolding directAt directOf
-direct-is b n = through (eventIn b) Refused (directTests b n) (At (rowIn (kindOf b) DirectEvents .at + 3 * n))
+direct-is b n =
+    whole b (directAt b n) (direct-ends b n)
+    ∙ through (wholeIn b) Refused (directTests b n) (At (rowIn (kindOf b) DirectEvents .at + 3 * n))
 
 pub event-is : (b : List ℕ) (n : ℕ) → eventIn b (ifftAt b n 5 85 3) ≡ eventOf b n
 unfolding ifftAt eventOf
-event-is b n = through (eventIn b) Refused (ifftTests b n 5 85) (At (0x020 + 3 * n))
+event-is b n =
+    whole b (ifftAt b n 5 85 3) (ifft-ends b n 5 85 3 (omega arith))
+    ∙ through (wholeIn b) Refused (ifftTests b n 5 85) (At (0x020 + 3 * n))
 
 abbrev pub itemIn : List ℕ → Entry → Itemed
 itemIn b (At at) = I.Is (itemAt b at)

@@ -4,7 +4,7 @@ use mathlib.Core.Bool.{Bool, true, _&&_}
 use mathlib.Core.List.{List, [], _∷_, _++_}
 use Prim.Native.Nat.{ℕ, _+_, _-_, _*_, _/_, _%_}
 use lib.Dec.{leb, ltb}
-use lib.ListN.{getD}
+use lib.ListN.{length, getD}
 use Rattle.base.specs.Pick.{pick}
 use Rattle.block.specs.declared.Refusal.the-variants.{Beyond, Hidden}
 use Rattle.block.specs.declared.Kind.{Kind}
@@ -16,6 +16,8 @@ use Rattle.block.specs.Parts.{hidden}
 use Rattle.event.specs.declared.Direction.{Direction}
 use Rattle.event.specs.declared.Direction.the-variants.{Head, HeadOnly, Unknown}
 use Rattle.event.specs.declared.Event.{Event}
+use Rattle.event.specs.declared.Entry.{Entry}
+use Rattle.event.specs.declared.Entry.the-variants as E
 use Rattle.event.specs.declared.Evented.{Evented}
 use Rattle.event.specs.declared.Evented.the-variants.{Is, Refused}
 
@@ -47,6 +49,11 @@ eventFrom energy time third =
 
 abbrev pub eventAt : List ℕ → ℕ → Event
 eventAt b at = eventFrom (getD b at 0) (getD b (at + 1) 0) (getD b (at + 2) 0)
+
+-- the event at an entry, or why there is none; 22 where its three bytes are not all there
+abbrev pub eventIn : List ℕ → Entry → Evented
+eventIn b (E.At at) = pick (leb (at + 3) (length b)) (Is (eventAt b at)) (Refused Beyond)
+eventIn b (E.Refused r) = Refused r
 
 -- as many as fill their part: 20 in NM, 106 in BM1
 abbrev pub eventsIn : Kind → ℕ

@@ -8,9 +8,7 @@ use Rattle.block.specs.Tables.{rowIn}
 use Rattle.block.specs.Layout.{kindOf}
 use Rattle.event.specs.declared.Entry.{Entry}
 use Rattle.event.specs.declared.Entry.the-variants.{At, Refused}
-use Rattle.event.specs.declared.Evented.{Evented}
-use Rattle.event.specs.declared.Evented.the-variants as E
-use Rattle.event.specs.Event.{eventAt, directTests}
+use Rattle.event.specs.Event.{directTests}
 use Rattle.event.specs.Ifft.{ifftTests}
 
 -- a direct event, and an entry of the IFFT block of so many bytes
@@ -24,7 +22,3 @@ ifftAt b n from most size = unless Refused (ifftTests b n from most) (At (0x020 
 abbrev pub reach : Entry → ℕ → ℕ
 reach (At at) size = at + size
 reach (Refused r) size = 0
-
-abbrev pub eventIn : List ℕ → Entry → Evented
-eventIn b (At at) = E.Is (eventAt b at)
-eventIn b (Refused r) = E.Refused r

@@ -1,7 +1,7 @@
 // Direct events, read by number from a data block; and what an entry is that is read by number, of the IFFT block too.
 // Keeps 01 "Data blocks" (direct events) and the rows 22 and 23 of "What the numbers mean".
 ghost use mathlib.Core.Path.{_≡_};
-ghost use Rattle.event.specs.Event.{directionOf, eventFrom, eventsIn, directOf};
+ghost use Rattle.event.specs.Event.{directionOf, eventFrom, eventIn, eventsIn, directOf};
 ghost use Rattle.event.specs.Steps.{directAt};
 use block::Kind;
 use block::Layout;
@@ -60,7 +60,7 @@ fn direction_of(d: u8) -> Direction
 }
 
 // The event of three bytes; the third has the sector in its high four bits, and D.
-pub fn event_from(energy: u8, time: u8, third: u8) -> Event
+fn event_from(energy: u8, time: u8, third: u8) -> Event
     ensures { λ r. ⌜ r ≡ eventFrom energy time third ⌝ }
 {
     let direction = direction_of(third % 16);
@@ -69,6 +69,21 @@ pub fn event_from(energy: u8, time: u8, third: u8) -> Event
         time,
         sector: third / 16,
         direction,
+    }
+}
+
+// The event at an entry; 22 where its three bytes are not all there.
+pub fn event_in(b: &[u8], entry: Entry) -> Evented
+    ensures { λ r. ⌜ r ≡ eventIn (now (b .entry)) entry ⌝ }
+{
+    match entry {
+        Entry::At(at) => {
+            if base::has_room(at, 3, b.len()) {
+                return Evented::Is(event_from(b[at], b[at + 1], b[at + 2]));
+            }
+            Evented::Refused(Refusal::Beyond)
+        }
+        Entry::Refused(r) => Evented::Refused(r),
     }
 }
 
@@ -107,12 +122,5 @@ fn direct_at(b: &[u8], n: usize) -> Entry
 pub fn direct_event(b: &[u8], n: usize) -> Evented
     ensures { λ r. ⌜ r ≡ directOf (now (b .entry)) n ⌝ }
 {
-    let entry = direct_at(b, n);
-    match entry {
-        Entry::At(at) => {
-            let event = event_from(b[at], b[at + 1], b[at + 2]);
-            Evented::Is(event)
-        }
-        Entry::Refused(r) => Evented::Refused(r),
-    }
+    event_in(b, direct_at(b, n))
 }

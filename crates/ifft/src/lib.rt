@@ -65,14 +65,7 @@ fn ifft_at(b: &[u8], n: usize, first: u8, most: u8, size: usize) -> Entry
 pub fn ifft_event(b: &[u8], n: usize) -> Evented
     ensures { λ r. ⌜ r ≡ eventOf (now (b .entry)) n ⌝ }
 {
-    let entry = ifft_at(b, n, 5, 85, 3);
-    match entry {
-        Entry::At(at) => {
-            let event = event::event_from(b[at], b[at + 1], b[at + 2]);
-            Evented::Is(event)
-        }
-        Entry::Refused(r) => Evented::Refused(r),
-    }
+    event::event_in(b, ifft_at(b, n, 5, 85, 3))
 }
 
 fn word_at(b: &[u8], at: usize) -> u16

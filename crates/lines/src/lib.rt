@@ -4,7 +4,6 @@ ghost use mathlib.Core.Path.{_≡_};
 ghost use mathlib.Core.List.{_++_};
 ghost use Prim.Native.Nat.{_+_, _≤_, _<_};
 ghost use lib.ListN.{length};
-ghost use lib.Dec.{leb};
 ghost use Rattle.base.specs.Ascii.{ascii};
 ghost use Rattle.lines.specs.Bounds.{WORD, LINE, DROP, PAIR, LAST};
 ghost use Rattle.lines.specs.Text.{digit, hexByte, hexWord, zerosOf, threeDigits, decimal, answerLine, droppedLine, linesOf, codesOf, lastLine};
@@ -21,19 +20,6 @@ pub const DROP: usize = 16;
 pub const PAIR: usize = DROP + LINE;
 
 pub const LAST: usize = 28;
-
-// Whether a page of len bytes has room for so many at a place. What is asked of the length alone comes first: a loop asks it once.
-fn has_room(at: usize, most: usize, len: usize) -> bool
-    ensures { λ r. ⌜ r ≡ leb (at + most) len ⌝ }
-{
-    if len < most {
-        return false;
-    }
-    if len - most < at {
-        return false;
-    }
-    true
-}
 
 fn digit_of(d: u8) -> u8
     requires { ⌜ d < 16 ⌝ }
@@ -185,7 +171,7 @@ fn put_faults(faults: Faults, page: &mut [u8], at: usize) -> usize
 pub fn put_lines(word: u16, reply: Reply, page: &mut [u8], at: usize) -> usize
     ensures { λ r. ⌜ Puts at (fitting PAIR at (now (page .entry)) (linesOf word reply)) (now (page .entry)) r (now (page .exit)) × (r ≤ at + PAIR) ⌝ }
 {
-    if has_room(at, PAIR, page.len()) {
+    if base::has_room(at, PAIR, page.len()) {
         return put_reply(word, reply, page, at);
     }
     at
@@ -195,7 +181,7 @@ pub fn put_lines(word: u16, reply: Reply, page: &mut [u8], at: usize) -> usize
 pub fn put_last_line(faults: Faults, page: &mut [u8], at: usize) -> usize
     ensures { λ r. ⌜ Puts at (fitting LAST at (now (page .entry)) (lastLine faults)) (now (page .entry)) r (now (page .exit)) ⌝ }
 {
-    if has_room(at, LAST, page.len()) {
+    if base::has_room(at, LAST, page.len()) {
         return put_faults(faults, page, at);
     }
     at

@@ -2,7 +2,6 @@
 // Keeps 01 "Data blocks" and the rows 19 to 23 of "What the numbers mean". What a kind and a part are is said in crate `block`.
 ghost use mathlib.Core.Path.{_≡_};
 ghost use Prim.Native.Nat.{_+_, _≤_};
-ghost use lib.Dec.{leb};
 ghost use lib.ListN.{length};
 ghost use Rattle.block.specs.Kinds.{lengthOf, secondAt};
 ghost use Rattle.block.specs.Layout.{marker, inner, layoutOf};
@@ -134,20 +133,13 @@ pub fn locate(b: &[u8], part: Part) -> Located
     }
 }
 
-// Whether so many bytes from a place on are within a length.
-fn is_within(len: usize, at: usize, n: usize) -> bool
-    ensures { λ r. ⌜ r ≡ leb (at + n) len ⌝ }
-{
-    at <= len && n <= len - at
-}
-
 // The bytes of the caller's slice that stand at a place; none where it is a refusal, or the slice ends before it. Nothing is judged.
 pub fn slice_of(b: &[u8], place: Located) -> &[u8]
     ensures { λ r. ⌜ now r ≡ bytesOf (now (b .entry)) place ⌝ }
 {
     match place {
         Located::At(at, n) => {
-            if is_within(b.len(), at, n) {
+            if base::has_room(at, n, b.len()) {
                 let end = at + n;
                 return &b[at..end];
             }

@@ -1,45 +1,14 @@
--- `event::direct_event` meets its contract: the event at the entry, which ends in the block.
+-- `event::direct_event` meets its contract: what stands at the entry is what is asked for.
 -- Assumes nothing.
-use mathlib.Core.Path.{_≡_, sym, _∙_, ap}
-use Prim.Native.Nat.{_≤_}
-use native.Mathlib.Omega.{arith}
-use denote.Ref.{now}
-use lib.ListN.{length}
+use mathlib.Core.Path.{_∙_, ap}
 use borrow.Author.Needs.{needs}
-use Rattle.event.specs.declared.Entry.{Entry}
-use Rattle.event.specs.declared.Entry.the-variants.{At}
-use Rattle.event.specs.declared.Evented.the-variants.{Is}
-use Rattle.event.specs.Steps.{reach, eventIn}
-use Rattle.event.proofs.Laws.{direct-ends, direct-is}
+use Rattle.event.specs.Event.{eventIn}
+use Rattle.event.proofs.Laws.{direct-is}
 use Rattle.event.proofs.direct_event.Statement.{statement}
 use Rattle.event.proofs.direct_event.Tie as tie
 
-ends : (c : tie.After-entry) → reach (At (c .entry .given .0 .0)) 3 ≤ length (now (c .before .before .before .before .args .b))
-ends c =
-    let a = c .before .before .before .before .args in
-    rw (sym (c .before .before .direct-at .ensures) ∙ c .entry .given .1) at (direct-ends (now (a .b)) (a .n))
-
 returns : tie.Need-returns
-returns c =
-    ap Is (c .event-from .ensures)
-    ∙ ap (eventIn _) (sym (c .before .before .before .before .before .entry .given .1) ∙ c .before .before .before .before .before .before .before .direct-at .ensures)
-    ∙ direct-is _ _
-
-returns-2 : tie.Need-returns-2
-returns-2 c = ap (eventIn _) (sym (c .before .entry2 .given .1) ∙ c .before .before .before .direct-at .ensures) ∙ direct-is _ _
+returns c = c .event-in .ensures ∙ ap (eventIn _) (c .before .direct-at .ensures) ∙ direct-is _ _
 
 pub direct-event-spec : {M : Type 1} → statement M
-direct-event-spec =
-    tie.close
-    (tie.spec
-    (λ c κs. search needs)
-    (λ c. search needs)
-    (λ c. let e = ends (c .before .before) in search needs)
-    (λ c. let e = ends (c .before .before) in search needs)
-    (λ c. let e = ends (c .before .before .before) in search needs)
-    (λ c. let e = ends (c .before .before .before) in search needs)
-    (λ c. let e = ends (c .before .before .before .before) in search needs)
-    (λ c κs. search needs)
-    (λ c. search needs)
-    returns
-    returns-2)
+direct-event-spec = tie.close (tie.spec (λ c κs. search needs) (λ c κs. search needs) returns)

@@ -11,7 +11,7 @@ use Rattle.locating.proofs.slice_of.Statement.{statement}
 use Rattle.locating.proofs.slice_of.Tie as tie
 
 inside : (c : tie.Then1) → c .before .before .before .place .given .0 .0 + c .before .before .before .place .given .0 .1 .0 ≤ length (now (c .before .before .before .before .before .before .args .b))
-inside c = leb-true _ _ (sym (c .before .is-within .ensures) ∙ c .if1 .taken)
+inside c = leb-true _ _ (sym (c .before .has-room .ensures) ∙ c .if1 .taken)
 
 back : (a n : ℕ) → a + n - a ≡ n
 back a n = omega arith
@@ -19,11 +19,11 @@ back a n = omega arith
 returns : tie.Need-returns
 returns c =
     rw (c .before .before .before .before .place .given .1)
-    (simp (sym (c .before .before .is-within .ensures) ∙ c .before .if1 .taken, back))
+    (simp (sym (c .before .before .has-room .ensures) ∙ c .before .if1 .taken, back))
 
 returns-2 : tie.Need-returns-2
 returns-2 c =
-    rw (c .before .before .before .before .place .given .1) (simp (sym (c .before .before .is-within .ensures) ∙ c .before .if1 .left))
+    rw (c .before .before .before .before .place .given .1) (simp (sym (c .before .before .has-room .ensures) ∙ c .before .if1 .left))
 
 pub slice-of-spec : {M : Type 1} → statement M
 slice-of-spec =

@@ -1,11 +1,11 @@
--- `lines::has_room` meets its contract: the page is too short, or the place is too far on, or neither.
+-- `base::has_room` meets its contract: the length is too short, or the place is too far on, or neither.
 -- Assumes nothing.
 use Prim.Native.Nat.{_+_, _≤_, _<_}
 use mathlib.Core.Path.{sym}
 use native.Mathlib.Omega.{arith}
 use borrow.Author.Tests.{le-leb, lt-leb}
-use Rattle.lines.proofs.has_room.Statement.{statement}
-use Rattle.lines.proofs.has_room.Tie as tie
+use Rattle.base.proofs.has_room.Statement.{statement}
+use Rattle.base.proofs.has_room.Tie as tie
 
 returns : tie.Need-returns
 returns c =
