@@ -42,31 +42,14 @@ fn turned(panel: Panel, setting: PanelSetting) -> Panel
 {
     let mut p = panel;
     match setting {
-        PanelSetting::Bias(b) => {
-            p.bias = b;
-            p
-        }
-        PanelSetting::Ground(b) => {
-            p.ground = b;
-            p
-        }
-        PanelSetting::FreeTime(t) => {
-            p.free = t;
-            p
-        }
-        PanelSetting::Flap1(open) => {
-            p.flap1 = open;
-            p
-        }
-        PanelSetting::Flap2(open) => {
-            p.flap2 = open;
-            p
-        }
-        PanelSetting::Flap3(open) => {
-            p.flap3 = open;
-            p
-        }
+        PanelSetting::Bias(b) => p.bias = b,
+        PanelSetting::Ground(b) => p.ground = b,
+        PanelSetting::FreeTime(t) => p.free = t,
+        PanelSetting::Flap1(open) => p.flap1 = open,
+        PanelSetting::Flap2(open) => p.flap2 = open,
+        PanelSetting::Flap3(open) => p.flap3 = open,
     }
+    p
 }
 
 // A setting by the instructor.
