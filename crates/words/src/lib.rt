@@ -1,8 +1,8 @@
-// One word taken: pending blocks, judging, and the bookkeeping of refusals.
-// Keeps 01 "Command words", but for the table of commands, which is `judge`'s.
+// One word taken: by its way, it is kept, closes the block, is swallowed, or is judged afresh.
+// Keeps 01 "Command words": what it does to a pending block, and with which reply.
 ghost use mathlib.Core.Path.{_≡_};
 ghost use Prim.Native.Nat.{_<_};
-ghost use Rattle.rig.specs.Words.{kindOf, refusedOf, settledOf, headOf, freshOf, oneMore, verdictOf, closedOf, droppedReply, takeOf};
+ghost use Rattle.rig.specs.Words.{kindOf, oneMore, verdictOf, closedOf, droppedReply, takeOf};
 ghost use Rattle.rig.specs.Ways.{unblockedOf, toldAs};
 use crc::Judged;
 use judge::Core;
@@ -10,7 +10,6 @@ use judge::Refusal;
 use judge::Verdict;
 use rig::Answer;
 use rig::DROPPED;
-use rig::Faults;
 use rig::Kind;
 use rig::Pending;
 use rig::Reply;
@@ -27,78 +26,6 @@ fn kind_of(high: u8) -> Kind
         1 => Kind::Head,
         2 => Kind::Data,
         _ => Kind::End,
-    }
-}
-
-// The bookkeeping of every refusal. The count goes from 255 to 0.
-fn refuse(rig: Rig, high: u8, number: u8) -> Rig
-    ensures { λ r. ⌜ r ≡ refusedOf rig high number ⌝ }
-{
-    let was = rig.faults;
-    let f = Faults {
-        error: number,
-        last: high,
-        count: std::num::wrapping_add_u8(was.count, 1),
-    };
-    let mut next = rig;
-    next.faults = f;
-    next
-}
-
-// A verdict carried out; high is what a refusal leaves as the last invalid code.
-fn settle(rig: Rig, high: u8, v: Verdict) -> Taken
-    ensures { λ r. ⌜ r ≡ settledOf rig high v ⌝ }
-{
-    match v {
-        Verdict::Apply(c) => {
-            let mut next = rig;
-            next.core = c;
-            Taken {
-                rig: next,
-                reply: Reply::Plain(Answer::Accepted),
-            }
-        }
-        Verdict::Deny(why) => {
-            let next = refuse(rig, high, judge::number(why));
-            Taken {
-                rig: next,
-                reply: Reply::Plain(Answer::Refused(why)),
-            }
-        }
-    }
-}
-
-fn begin(rig: Rig, high: u8, n: u8) -> Taken
-    ensures { λ r. ⌜ r ≡ headOf rig high n ⌝ }
-{
-    let long = 79 < n;
-    if long {
-        return settle(rig, high, Verdict::Deny(Refusal::WrongCount));
-    }
-    let mut p = rig::nothing_pending();
-    p.waiting = true;
-    p.head = high;
-    p.n = n;
-    let mut next = rig;
-    next.pending = p;
-    Taken {
-        rig: next,
-        reply: Reply::Plain(Answer::Waiting),
-    }
-}
-
-// A word with nothing pending.
-fn fresh(rig: Rig, kind: Kind, high: u8, low: u8) -> Taken
-    ensures { λ r. ⌜ r ≡ freshOf rig kind high low ⌝ }
-{
-    match kind {
-        Kind::Single => {
-            let core = rig.core;
-            settle(rig, high, single_words::single(core, high % 64, low))
-        }
-        Kind::Head => begin(rig, high, low),
-        Kind::Data => settle(rig, high, Verdict::Deny(Refusal::StrayWord)),
-        Kind::End => settle(rig, high, Verdict::Deny(Refusal::StrayWord)),
     }
 }
 
@@ -146,7 +73,7 @@ fn close(rig: Rig, low: u8) -> Taken
     let mut next = rig;
     next.pending = none;
     next.check = p.check;
-    settle(next, p.head, v)
+    afresh::settle(next, p.head, v)
 }
 
 // The rig with no block pending: one that waited is dropped, and 03h booked under the head's byte.
@@ -158,7 +85,7 @@ fn unblocked(rig: Rig) -> Rig
         let none = rig::nothing_pending();
         let mut shut = rig;
         shut.pending = none;
-        return refuse(shut, p.head, DROPPED);
+        return afresh::refuse(shut, p.head, DROPPED);
     }
     rig
 }
@@ -218,7 +145,7 @@ pub fn take(rig: Rig, word: u16) -> Taken
         }
         Way::Afresh => {
             let free = unblocked(rig);
-            let judged = fresh(free, kind, high, low);
+            let judged = afresh::fresh(free, kind, high, low);
             let next = judged.rig;
             let answer = judged.reply;
             let reply = told(p.waiting, answer);

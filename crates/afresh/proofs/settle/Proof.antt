@@ -1,9 +1,9 @@
--- `words::settle` meets its contract: an arm for each verdict.
+-- `afresh::settle` meets its contract: an arm for each verdict.
 -- Assumes nothing.
 use Rattle.rig.specs.Words.{settledOf}
 use borrow.Author.Needs.{needs}
-use Rattle.words.proofs.settle.Statement.{statement}
-use Rattle.words.proofs.settle.Tie as tie
+use Rattle.afresh.proofs.settle.Statement.{statement}
+use Rattle.afresh.proofs.settle.Tie as tie
 
 returns : tie.Need-returns
 unfolding settledOf

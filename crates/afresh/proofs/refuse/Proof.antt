@@ -1,9 +1,9 @@
--- `words::refuse` meets its contract: the faults alone are replaced.
+-- `afresh::refuse` meets its contract: the faults alone are replaced.
 -- Assumes nothing.
 use Rattle.rig.specs.Words.{refusedOf}
 use borrow.Author.Needs.{needs}
-use Rattle.words.proofs.refuse.Statement.{statement}
-use Rattle.words.proofs.refuse.Tie as tie
+use Rattle.afresh.proofs.refuse.Statement.{statement}
+use Rattle.afresh.proofs.refuse.Tie as tie
 
 returns : tie.Need-returns
 unfolding refusedOf

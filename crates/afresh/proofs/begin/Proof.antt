@@ -1,9 +1,9 @@
--- `words::begin` meets its contract: n is over 79 or not.
+-- `afresh::begin` meets its contract: n is over 79 or not.
 -- Assumes nothing.
 use Rattle.rig.specs.Words.{headOf}
 use borrow.Author.Needs.{needs}
-use Rattle.words.proofs.begin.Statement.{statement}
-use Rattle.words.proofs.begin.Tie as tie
+use Rattle.afresh.proofs.begin.Statement.{statement}
+use Rattle.afresh.proofs.begin.Tie as tie
 
 returns : tie.Need-returns
 unfolding headOf

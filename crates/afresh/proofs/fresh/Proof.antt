@@ -1,9 +1,9 @@
--- `words::fresh` meets its contract: an arm for each kind.
+-- `afresh::fresh` meets its contract: an arm for each kind.
 -- Assumes nothing.
 use Rattle.rig.specs.Words.{freshOf}
 use borrow.Author.Needs.{needs}
-use Rattle.words.proofs.fresh.Statement.{statement}
-use Rattle.words.proofs.fresh.Tie as tie
+use Rattle.afresh.proofs.fresh.Statement.{statement}
+use Rattle.afresh.proofs.fresh.Tie as tie
 
 returns : tie.Need-returns
 unfolding freshOf
