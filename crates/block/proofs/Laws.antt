@@ -1,7 +1,7 @@
--- What the proofs of `locate` and `place_of` stand on: a law of tests in order; the code's rows say what 01 and G's tables say; and a part
--- that is located is not empty and lies in its block. Assumes nothing.
+-- What the proofs of `locate` and of crate `placing` stand on: a law of tests in order; a row of G's tables has a length exactly where its kind
+-- has the part; and a part that is located is not empty and lies in its block. Assumes nothing.
 use mathlib.Core.Path.{_≡_, refl, sym, ap, subst, _∙_}
-use mathlib.Core.Bool.{Bool, true, false, not, _||_}
+use mathlib.Core.Bool.{Bool, true, false, not}
 use mathlib.Core.List.{List, [], _∷_}
 use Prim.Native.Nat.{ℕ, zero, suc, _+_, _≤_, _<_}
 use native.Mathlib.Omega.{arith}
@@ -19,15 +19,14 @@ use Rattle.block.specs.declared.Layout.{Layout}
 use Rattle.block.specs.declared.Layout.the-variants.{Is, Bad}
 use Rattle.block.specs.declared.Part.{Part}
 use Rattle.block.specs.declared.Part.the-variants.{Marker, Index, Descriptor1, Calibration, MSigns, Sgl0, DirectEvents, HSpct, ISpct, Sgl1, Sgl2, Sgl3, IPad, I3dd, Mtrx, Descriptor2, EPad, E3dd, M}
-use Rattle.block.specs.declared.Columns.{Columns}
 use Rattle.block.specs.declared.Located.{Located}
 use Rattle.block.specs.declared.Located.the-variants.{At, Refused}
 use Rattle.block.specs.Refusals.{Tests, unless}
 use Rattle.block.specs.Kinds.{kinds, lengthOf, markerOf, secondAt}
 use Rattle.block.specs.Tables.{parts, rowOf, has, rowIn}
-use Rattle.block.specs.Layout.{marker, known, inner, bit, kindOf, first, dumped, second, blockTests, layoutOf}
+use Rattle.block.specs.Layout.{marker, known, inner, kindOf, first, dumped, second, blockTests, layoutOf}
 use Rattle.block.specs.Parts.{hidden, placeTests, placeOf, locateOf, partOf}
-use Rattle.block.specs.Steps.{asKind, groupOf, hides, columnsOf, foundAt, placeIn}
+use Rattle.block.specs.Steps.{asKind, placeIn}
 
 -- what is made of an answer is made of it after the same tests
 pub through : {A B : Type 0} (f : A → B) (refused : Refusal → A) (ts : Tests) (a : A) → f (unless refused ts a) ≡ unless (λ (r : Refusal). f (refused r)) ts (f a)
@@ -152,59 +151,12 @@ ends-in k p = leb→le _ _ (both-left (leb (rowIn k p .at + rowIn k p .length) (
 pub full : (k : Kind) (p : Part) → has k p ≡ true → 0 < rowIn k p .length
 full k p e = ltb→lt 0 (rowIn k p .length) (rw e at (both-right (leb (rowIn k p .at + rowIn k p .length) (lengthOf k)) _ (all-fit k p)))
 
-lacking : (k : Kind) (p : Part) → eqb (rowIn k p .length) 0 ≡ not (has k p)
+pub lacking : (k : Kind) (p : Part) → eqb (rowIn k p .length) 0 ≡ not (has k p)
 lacking k p =
     split (has k p)
     (λ e. let h = full k p e in simp e (ne-eqb _ _ (λ (z : rowIn k p .length ≡ 0). omega arith)))
     (λ e. let t : T (eqb (rowIn k p .length) 0) = rw e at (both-right (leb (rowIn k p .at + rowIn k p .length) (lengthOf k)) _ (all-fit k p)) in
     simp e (eq-eqb _ _ (eqb→eq (rowIn k p .length) 0 t)))
-
--- a part's group is hidden exactly if one of 01's sentences hides the part
-whole : (x : Bool) → x ≡ x || false || false
-whole true = refl
-whole false = refl
-
-ions : (x y : Bool) → x || y ≡ x || y || false
-ions true y = refl
-ions false true = refl
-ions false false = refl
-
-electrons : (x y : Bool) → x || y ≡ x || false || y
-electrons true y = refl
-electrons false y = refl
-
-module _ (d1 d2 : ℕ) where
-  ion : hides (groupOf Mtrx) d1 d2 ≡ hidden Mtrx d1 d2
-  ion = ions (bit d1 2) (bit d1 0 || bit d1 3)
-
-  electron : hides (groupOf M) d1 d2 ≡ hidden M d1 d2
-  electron = electrons (bit d1 2) (bit d1 1 || bit d2 7)
-
-  pub hides-01 : (p : Part) → hides (groupOf p) d1 d2 ≡ hidden p d1 d2
-  hides-01 Marker = refl
-  hides-01 Index = refl
-  hides-01 Descriptor1 = refl
-  hides-01 Calibration = ion
-  hides-01 MSigns = ion
-  hides-01 Sgl0 = ion
-  hides-01 DirectEvents = ion
-  hides-01 HSpct = ion
-  hides-01 ISpct = ion
-  hides-01 Sgl1 = ion
-  hides-01 Sgl2 = ion
-  hides-01 Sgl3 = ion
-  hides-01 IPad = ion
-  hides-01 I3dd = ion
-  hides-01 Mtrx = ion
-  hides-01 Descriptor2 = whole (bit d1 2)
-  hides-01 EPad = electron
-  hides-01 E3dd = electron
-  hides-01 M = electron
-
--- so what the code answers of a part's row is what 01 and G's tables say
-pub found-01 : (k : Kind) (d1 d2 : ℕ) (p : Part) (c : Columns) → c ≡ columnsOf k p → foundAt c d1 d2 ≡ placeOf k d1 d2 p
-unfolding placeOf
-found-01 k d1 d2 p c e = ap (λ (q : Columns). foundAt q d1 d2) e ∙ simp (lacking k p, hides-01 d1 d2 p)
 
 -- what is located in a block: the block's layout, then the place there
 pub located-as : (b : List ℕ) (p : Part) → placeIn (layoutOf b) p ≡ locateOf b p

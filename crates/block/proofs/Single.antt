@@ -5,13 +5,9 @@ use Prim.Native.Nat.{ℕ}
 use Rattle.base.proofs.Single.{same}
 use Rattle.block.specs.declared.Refusal.{Refusal}
 use Rattle.block.specs.declared.Kind.{Kind}
-use Rattle.block.specs.declared.Part.{Part}
-use Rattle.block.specs.declared.Located.{Located}
 use Rattle.block.proofs.number.Reads as number
 use Rattle.block.proofs.length_of.Reads as length-of
 use Rattle.block.proofs.marker_of.Reads as marker-of
-use Rattle.block.proofs.row_of.Reads as row-of
-use Rattle.block.proofs.place_of.Reads as place-of
 
 pub number-one : (f : Refusal) (r q : ℕ) → number.Post tt (f, tt) r (f, tt) → number.Post tt (f, tt) q (f, tt) → r ≡ q
 number-one f r q m n = same m n
@@ -21,10 +17,3 @@ length-of-one k r q m n = same m n
 
 pub marker-of-one : (k : Kind) (r q : ℕ) → marker-of.Post tt (k, tt) r (k, tt) → marker-of.Post tt (k, tt) q (k, tt) → r ≡ q
 marker-of-one k r q m n = same m n
-
-pub row-of-one : (p : Part) (r q : ℕ) → row-of.Post tt (p, tt) r (p, tt) → row-of.Post tt (p, tt) q (p, tt) → r ≡ q
-row-of-one p r q m n = same m n
-
-pub place-of-one : (k : Kind) (d1 d2 : ℕ) (p : Part) (r q : Located) → place-of.Post tt (k, (d1, (d2, (p, tt)))) r (k, (d1, (d2, (p, tt))))
-    → place-of.Post tt (k, (d1, (d2, (p, tt)))) q (k, (d1, (d2, (p, tt)))) → r ≡ q
-place-of-one k d1 d2 p r q m n = same m n

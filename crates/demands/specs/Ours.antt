@@ -45,7 +45,7 @@ use Rattle.block.specs.declared.Refusal.{Refusal as BlockRefusal}
 use Rattle.block.specs.Refusals as blocks
 use Rattle.block.specs.Parts.{placeOf, locateOf, partOf}
 use Rattle.block.proofs.number.Reads as block-number-fn
-use Rattle.block.proofs.place_of.Reads as place-fn
+use Rattle.placing.proofs.place_of.Reads as place-fn
 use Rattle.locating.proofs.locate.Reads as locate-fn
 use Rattle.locating.proofs.slice_of.Reads as slice-fn
 use Rattle.event.specs.declared.Evented.{Evented}

@@ -91,7 +91,7 @@ pub fn event_in(b: &[u8], entry: Entry) -> Evented
 fn events_in(kind: Kind) -> usize
     ensures { λ r. ⌜ r ≡ eventsIn kind ⌝ }
 {
-    let place = block::place_of(kind, 0, 0, Part::DirectEvents);
+    let place = placing::place_of(kind, 0, 0, Part::DirectEvents);
     match place {
         Located::At(_, n) => n / 3,
         Located::Refused(_) => 0,
@@ -109,7 +109,7 @@ fn direct_at(b: &[u8], n: usize) -> Entry
             if events_in(kind) <= n {
                 return Entry::Refused(Refusal::Beyond);
             }
-            let place = block::place_of(kind, d1, d2, Part::DirectEvents);
+            let place = placing::place_of(kind, d1, d2, Part::DirectEvents);
             match place {
                 Located::At(at, _) => Entry::At(at + 3 * n),
                 Located::Refused(r) => Entry::Refused(r),

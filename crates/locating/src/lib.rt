@@ -127,8 +127,8 @@ pub fn locate(b: &[u8], part: Part) -> Located
     match layout {
         Layout::Bad(r) => Located::Refused(r),
         Layout::Is(kind, d1, d2) => match kind {
-            Kind::Nm => block::place_of(Kind::Nm, d1, d2, part),
-            Kind::Bm1 => block::place_of(Kind::Bm1, d1, d2, part),
+            Kind::Nm => placing::place_of(Kind::Nm, d1, d2, part),
+            Kind::Bm1 => placing::place_of(Kind::Bm1, d1, d2, part),
         },
     }
 }

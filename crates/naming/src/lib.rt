@@ -121,5 +121,5 @@ pub fn part_name(part: Part) -> [u8; NAME]
         direct-events   H-SPCT          I-SPCT          SGL1            SGL2            SGL3            \
         I-PAD           I-3DD           MTRX            descriptor2     E-PAD           E-3DD           \
         m               ";
-    cut(names, block::row_of(part))
+    cut(names, placing::row_of(part))
 }

@@ -1,11 +1,11 @@
--- `block::bm1_row` meets its contract: in each arm the part is known, and its row computes.
+-- `placing::nm_row` meets its contract: in each arm the part is known, and its row computes.
 -- Assumes nothing.
 use borrow.Author.Needs.{needs}
-use Rattle.block.proofs.bm1_row.Statement.{statement}
-use Rattle.block.proofs.bm1_row.Tie as tie
+use Rattle.placing.proofs.nm_row.Statement.{statement}
+use Rattle.placing.proofs.nm_row.Tie as tie
 
-pub bm1-row-spec : {M : Type 1} → statement M
-bm1-row-spec =
+pub nm-row-spec : {M : Type 1} → statement M
+nm-row-spec =
     tie.close
     (tie.spec
     (λ c. search needs)

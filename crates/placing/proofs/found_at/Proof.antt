@@ -1,9 +1,9 @@
--- `block::found_at` meets its contract: the two tests in their order.
+-- `placing::found_at` meets its contract: the two tests in their order.
 -- Assumes nothing.
 use borrow.Author.Needs.{needs}
 use borrow.Author.Tests.{eq-eqb, ne-eqb}
-use Rattle.block.proofs.found_at.Statement.{statement}
-use Rattle.block.proofs.found_at.Tie as tie
+use Rattle.placing.proofs.found_at.Statement.{statement}
+use Rattle.placing.proofs.found_at.Tie as tie
 
 returns-2 : tie.Need-returns-2
 returns-2 c = simp (← c .before .before .before .is-hidden .ensures, ne-eqb _ _ (c .before .if1 .left), c .if2 .taken)

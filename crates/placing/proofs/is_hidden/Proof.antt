@@ -1,8 +1,8 @@
--- `block::is_hidden` meets its contract: in each arm the group is known, and the bits are those that the calls tested.
+-- `placing::is_hidden` meets its contract: in each arm the group is known, and the bits are those that the calls tested.
 -- Assumes nothing.
 use borrow.Author.Needs.{needs}
-use Rattle.block.proofs.is_hidden.Statement.{statement}
-use Rattle.block.proofs.is_hidden.Tie as tie
+use Rattle.placing.proofs.is_hidden.Statement.{statement}
+use Rattle.placing.proofs.is_hidden.Tie as tie
 
 returns-3 : tie.Need-returns-3
 returns-3 c =

@@ -1,12 +1,12 @@
--- `block::place_of` meets its contract: in each arm the kind is known; the code's rows are G's tables and 01's sentences by `found-01` of Laws.
+-- `placing::place_of` meets its contract: in each arm the kind is known; the code's rows are G's tables and 01's sentences by `found-01` of Laws.
 -- Assumes nothing.
 use mathlib.Core.Path.{ap, sym, _∙_}
 use borrow.Author.Needs.{needs}
 use Rattle.block.specs.declared.Kind.{Kind}
 use Rattle.block.specs.Parts.{placeOf}
-use Rattle.block.proofs.Laws.{found-01}
-use Rattle.block.proofs.place_of.Statement.{statement}
-use Rattle.block.proofs.place_of.Tie as tie
+use Rattle.placing.proofs.Laws.{found-01}
+use Rattle.placing.proofs.place_of.Statement.{statement}
+use Rattle.placing.proofs.place_of.Tie as tie
 
 returns : tie.Need-returns
 returns c =
