@@ -1,2 +1,2 @@
--- Single outcome of the writer's functions.
+-- Single outcome of the writer.
 pub mod Single

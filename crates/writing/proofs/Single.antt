@@ -1,19 +1,13 @@
 -- Single outcome: two results that meet a function's own contract at the same arguments are equal, and so is what a lent buffer then holds.
 -- Stated of the contract that the checker makes of the source (`Reads.Post`). Assumes nothing.
 use mathlib.Core.Path.{_≡_}
-use Prim.Native.Nat.{ℕ}
 use contract.Lifetimes.{Lfts}
 use denote.Triple.Clauses.{AtExit}
 use borrow.Fn.Kinds.{Dens, endedOf}
 use Rattle.base.proofs.Single.{same}
-use Rattle.frame.specs.declared.Held.{Held}
 use Rattle.frame.specs.declared.Wrote.{Wrote}
-use Rattle.writing.proofs.latched.Reads as latched
 use Rattle.writing.proofs.write_at.Kinds as write-at-kinds
 use Rattle.writing.proofs.write_at.Reads as write-at
-
-pub latched-one : (h : Held) (i l r q : ℕ) → latched.Post tt (h, (i, (l, tt))) r (h, (i, (l, tt))) → latched.Post tt (h, (i, (l, tt))) q (h, (i, (l, tt))) → r ≡ q
-latched-one h i l r q m n = same m n
 
 module _ (κs : Lfts 1) where
   -- e and f are what the arguments are at the exit; the buffer is the fourth

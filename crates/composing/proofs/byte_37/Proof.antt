@@ -1,10 +1,10 @@
--- `writing::byte_37` meets its contract: in each arm the test on the index modulo 4 is the one that led there.
+-- `composing::byte_37` meets its contract: in each arm the test on the index modulo 4 is the one that led there.
 -- Assumes nothing.
 use borrow.Author.Needs.{needs}
 use borrow.Author.Tests.{ne-eqb}
 use Rattle.frame.specs.Write.{quarterOf}
-use Rattle.writing.proofs.byte_37.Statement.{statement}
-use Rattle.writing.proofs.byte_37.Tie as tie
+use Rattle.composing.proofs.byte_37.Statement.{statement}
+use Rattle.composing.proofs.byte_37.Tie as tie
 
 returns : tie.Need-returns
 unfolding quarterOf

@@ -1,9 +1,9 @@
--- `writing::byte_38` meets its contract: ground where the index divides by 8, else 0.
+-- `composing::byte_38` meets its contract: ground where the index divides by 8, else 0.
 -- Assumes nothing.
 use borrow.Author.Tests.{ne-eqb}
 use Rattle.frame.specs.Write.{groundAt}
-use Rattle.writing.proofs.byte_38.Statement.{statement}
-use Rattle.writing.proofs.byte_38.Tie as tie
+use Rattle.composing.proofs.byte_38.Statement.{statement}
+use Rattle.composing.proofs.byte_38.Tie as tie
 
 returns : tie.Need-returns
 unfolding groundAt

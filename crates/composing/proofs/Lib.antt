@@ -1,0 +1,2 @@
+-- Single outcome of the composer's functions.
+pub mod Single
