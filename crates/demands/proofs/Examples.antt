@@ -11,7 +11,8 @@ use Rattle.frame.specs.Write.{quarterOf, groundAt, muxOf, frameOf}
 use Rattle.frame.specs.Read.{allAre, arrivedOf, isPlain}
 use Rattle.cell.specs.declared.Shown.{Shown}
 use Rattle.cell.specs.declared.Shown.the-variants.{Unknown, Known}
-use Rattle.desk.specs.Desk.{readingOf, halfAfter, cellsAfter, slotOf}
+use Rattle.cells.specs.Cells.{cellsAfter}
+use Rattle.desk.specs.Desk.{readingOf, halfAfter, slotOf}
 use Rattle.demands.specs.Outfit.{proved}
 use Rattle.demands.specs.Queue.{spin, marked, Step, alone, built, came, gone, steps}
 use Rattle.demands.specs.Demand3.{reached, TooFew}

@@ -15,7 +15,8 @@ use Rattle.desk.specs.declared.Answer.the-variants as desk
 use Rattle.desk.specs.declared.Received.{Received}
 use Rattle.cell.specs.declared.Shown.{Shown}
 use Rattle.cell.specs.declared.Shown.the-variants.{Unknown, Known}
-use Rattle.desk.specs.Desk.{readingOf, halfAfter, cellsAfter, freshDesk, slotOf}
+use Rattle.cells.specs.Cells.{cellsAfter}
+use Rattle.desk.specs.Desk.{readingOf, halfAfter, freshDesk, slotOf}
 use Rattle.power.specs.declared.PanelSetting.the-variants as panel
 use Rattle.rig.specs.declared.Rig.{Rig}
 use Rattle.rig.specs.declared.Answer.the-variants.{Accepted, Refused}

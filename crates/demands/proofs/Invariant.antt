@@ -12,7 +12,8 @@ use Rattle.desk.specs.declared.Desk.{Desk}
 use Rattle.desk.specs.declared.Received.{Received}
 use Rattle.half.specs.declared.Half.{Half}
 use Rattle.cell.specs.Cell.{latestOf, blank, shownBy}
-use Rattle.desk.specs.Desk.{readingOf, halfAfter, slotOf, missedOf, heardOf, nothing, shows}
+use Rattle.cells.specs.Cells.{nothing}
+use Rattle.desk.specs.Desk.{readingOf, halfAfter, slotOf, missedOf, heardOf, shows}
 use Rattle.rig.specs.declared.Rig.{Rig}
 use Rattle.rig.specs.Words.{takeOf}
 use Rattle.power.specs.Power.{spunOf, setOf}

@@ -14,9 +14,10 @@ use Rattle.frame.proofs.Came.{no-other}
 use Rattle.frame.proofs.Tells.{whole}
 use Rattle.desk.specs.declared.Answer.the-variants.{Heard, Missed, Refused}
 use Rattle.desk.specs.declared.Desk.{Desk}
-use Rattle.desk.specs.Desk.{readingOf, nothing, missedOf, heardOf, slotOf}
+use Rattle.cells.specs.Cells.{nothing}
+use Rattle.desk.specs.Desk.{readingOf, missedOf, heardOf, slotOf}
 use Rattle.desk.specs.Laws.{answered, Laws}
-use Rattle.desk.proofs.Cells.{at-slot, one-way}
+use Rattle.cells.proofs.Cells.{at-slot, one-way}
 use Rattle.desk.proofs.Readings.{reading-fits}
 use Rattle.desk.proofs.Unread.{heard-same}
 

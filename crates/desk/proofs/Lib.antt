@@ -1,5 +1,4 @@
 -- Laws that the proofs of `desk` are written with, and what holds of every desk.
-pub mod Cells
 pub mod Readings
 pub mod Unread
 pub mod Laws

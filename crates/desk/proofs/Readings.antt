@@ -18,8 +18,9 @@ use Rattle.half.specs.declared.Half.{Half}
 use Rattle.half.specs.declared.SoFar.{SoFar}
 use Rattle.half.specs.declared.SoFar.the-variants.{None, Bytes}
 use Rattle.half.specs.Half.{bornAt, grownOf, spreadOf, halfAt}
-use Rattle.desk.specs.Desk.{plainOf, toldBy, readingOf, halfAfter}
-use Rattle.desk.proofs.Cells.{Fits}
+use Rattle.bringing.specs.Bringing.{plainOf, toldBy}
+use Rattle.desk.specs.Desk.{readingOf, halfAfter}
+use Rattle.cells.proofs.Cells.{Fits}
 
 -- a plain item is what `frame` reads
 pub plain-is : (half : Half) (f : List ℕ) (k : ℕ) → length f ≡ 40 → isPlain k ≡ true → plainOf (readOf f k) ≡ readingOf half f k

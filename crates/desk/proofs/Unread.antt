@@ -21,8 +21,9 @@ use Rattle.half.specs.declared.Half.the-variants.{Nothing}
 use Rattle.cell.specs.declared.Shown.the-variants.{Unknown}
 use Rattle.desk.specs.declared.Desk.{Desk}
 use Rattle.half.specs.Half.{bornAt, grownOf, keptAt, partly}
-use Rattle.desk.specs.Desk.{plainOf, readingOf, halfAfter, heardOf}
-use Rattle.desk.proofs.Cells.{cells-same}
+use Rattle.bringing.specs.Bringing.{plainOf}
+use Rattle.desk.specs.Desk.{readingOf, halfAfter, heardOf}
+use Rattle.cells.proofs.Cells.{cells-same}
 use Rattle.desk.proofs.Readings.{plain-is, spread-is, once}
 
 -- a frame after which a number is half read is one of that number's

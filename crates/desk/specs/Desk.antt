@@ -1,31 +1,25 @@
 -- What the desk does at a slot, and what it then shows (01, "The 40-byte frame", the paragraph "The desk takes slots").
--- The rows of the items, what a frame carries and what arrived are those of `frame`; one item is in `cell`, a number half read in `half`. Assumes nothing.
-use mathlib.Core.List.{List, [], _∷_}
-use Prim.Native.Nat.{ℕ, zero, suc}
+-- The rows of the items, what a frame carries and what arrived are those of `frame`; one item is in `cell`, all of them in `cells`, a number half read
+-- in `half`. Assumes nothing.
+use mathlib.Core.List.{List}
+use Prim.Native.Nat.{ℕ}
 use lib.ListN.{getD, replicate}
 use Rattle.base.specs.Pick.{pick}
 use Rattle.base.specs.Counts.{frames}
 use Rattle.frame.specs.declared.Arrived.{Arrived}
 use Rattle.frame.specs.declared.Arrived.the-variants as arrived
-use Rattle.frame.specs.declared.Reading.{Reading}
-use Rattle.frame.specs.declared.Reading.the-variants as reading
-use Rattle.frame.specs.Read.{indexOf, fieldOf, carries, phaseOf, bornOf, isPlain, readOf, arrivedOf}
+use Rattle.frame.specs.Read.{indexOf, fieldOf, carries, bornOf, isPlain, arrivedOf}
 use Rattle.frame.specs.Items.{items}
 use Rattle.cell.specs.declared.Shown.{Shown}
 use Rattle.cell.specs.declared.Shown.the-variants.{Unknown, Known}
-use Rattle.cell.specs.declared.Cell.{Cell}
-use Rattle.cell.specs.Cell.{blank, shownBy, cellAfter}
+use Rattle.cell.specs.Cell.{blank, shownBy}
 use Rattle.half.specs.declared.Half.{Half}
 use Rattle.half.specs.declared.Half.the-variants.{Nothing}
-use Rattle.half.specs.Half.{grownOf, bornAt, spreadOf, halfAt}
+use Rattle.half.specs.Half.{grownOf, bornAt, halfAt}
+use Rattle.cells.specs.Cells.{cellsAfter, nothing}
 use Rattle.desk.specs.declared.Desk.{Desk}
 use Rattle.desk.specs.declared.Answer.the-variants.{Heard, Missed, Refused}
 use Rattle.desk.specs.declared.Received.{Received}
-
--- a plain item is as old as its frame
-abbrev pub plainOf : Reading → Shown
-plainOf reading.Nothing = Unknown
-plainOf (reading.Value v) = Known v (frames 0)
 
 -- what a whole frame by itself shows of the item in row k: a plain item at age 0; a spread number, where its last byte comes, at the age
 -- of its first frame
@@ -35,21 +29,8 @@ readingOf half f k =
     (pick (isPlain k) (Known (fieldOf f k) (frames 0)) (bornAt (frames (bornOf k)) (grownOf half (indexOf f) (getD f 39 0))))
     Unknown
 
--- the same, of bytes that came with index i and byte 39 b, item by item as the code asks for them
-abbrev pub toldBy : Half → List ℕ → ℕ → ℕ → ℕ → Shown
-toldBy half f i b k = pick (isPlain k) (plainOf (readOf f k)) (spreadOf half i b (phaseOf k) (frames (bornOf k)))
-
 unfoldable pub halfAfter : Half → List ℕ → Half
 halfAfter half f = halfAt half (indexOf f) (getD f 39 0)
-
--- g k, g (k + 1), .. : n in all
-abbrev pub cellsFrom : (ℕ → Cell) → ℕ → ℕ → List Cell
-cellsFrom g k zero = []
-cellsFrom g k (suc n) = g k ∷ cellsFrom g (suc k) n
-
--- the cells after a slot that by itself shows f k of the item in row k
-unfoldable pub cellsAfter : (ℕ → Shown) → List Cell → List Cell
-cellsAfter f cs = cellsFrom (λ k. cellAfter (f k) (getD cs k blank)) 0 items
 
 -- a fresh desk
 abbrev pub freshDesk : Desk
@@ -59,10 +40,7 @@ freshDesk = record { cells = replicate items blank; half = Nothing }
 abbrev pub shows : Desk → ℕ → Shown
 shows d k = shownBy (getD (d .cells) k blank)
 
--- a miss shows nothing, and discards what is half read
-abbrev pub nothing : ℕ → Shown
-nothing k = Unknown
-
+-- a miss discards what is half read
 abbrev pub missedOf : Desk → Desk
 missedOf d = record { cells = cellsAfter nothing (d .cells); half = Nothing }
 

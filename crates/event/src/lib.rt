@@ -102,7 +102,7 @@ fn events_in(kind: Kind) -> usize
 fn direct_at(b: &[u8], n: usize) -> Entry
     ensures { λ r. ⌜ r ≡ directAt (now (b .entry)) n ⌝ }
 {
-    let layout = locating::layout_of(b);
+    let layout = layout::layout_of(b);
     match layout {
         Layout::Bad(r) => Entry::Refused(r),
         Layout::Is(kind, d1, d2) => {

@@ -45,7 +45,7 @@ fn ifft_at(b: &[u8], n: usize, first: u8, most: u8, size: usize) -> Entry
     requires { ⌜ (first ≤ 6) × (size ≤ 4) ⌝ }
     ensures { λ r. ⌜ r ≡ ifftAt (now (b .entry)) n first most size ⌝ }
 {
-    let layout = locating::layout_of(b);
+    let layout = layout::layout_of(b);
     match layout {
         Layout::Bad(r) => Entry::Refused(r),
         Layout::Is(kind, d1, _) => {

@@ -1,3 +1,2 @@
--- The laws of texts on a page.
-pub mod Puts
+-- Single outcome.
 pub mod Single

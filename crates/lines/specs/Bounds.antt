@@ -19,10 +19,3 @@ DROP = 16
 -- the most that one word brings
 abbrev pub PAIR : ℕ
 PAIR = DROP + LINE
-
--- the last line: " last 28 code 06" and the line feed behind "invalid 255"
-abbrev pub CODES : ℕ
-CODES = 17
-
-abbrev pub LAST : ℕ
-LAST = 11 + CODES

@@ -1,4 +1,3 @@
--- The lines of a listing, and a page that they are put into.
+-- The lines of a word, and how long they get.
 pub mod Bounds
 pub mod Text
-pub mod Page

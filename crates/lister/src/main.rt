@@ -51,7 +51,7 @@ fn turn(lister: Lister, page: &mut [u8; listing::PAGE]) -> Turned {
         };
     }
     let n = io::count(got, &piece);
-    let listed = listing::list(lister, &piece, n, page);
+    let listed = pieces::list(lister, &piece, n, page);
     let len = listed.len;
     let whole: &[u8] = page;
     tell(listed.lister, &whole[..len])

@@ -7,7 +7,8 @@ use Rattle.supply.specs.Rules.{relayOf, targeted, limited, switched}
 use Rattle.judge.specs.Commands.{carried, singleOf}
 use Rattle.rig.specs.Words.{takeOf, freshOf, settledOf, refusedOf, kindOf}
 use Rattle.base.specs.Ascii.{ascii}
-use Rattle.lines.specs.Text.{digit, zerosOf}
+use Rattle.text.specs.Digits.{digit}
+use Rattle.last_line.specs.LastLine.{zerosOf}
 use Rattle.listing.specs.Listing.{listingOf}
 
 -- 01's lines

@@ -7,7 +7,7 @@ use native.Mathlib.Nat.{zero-add}
 use native.Mathlib.Omega.{arith}
 use lib.ListN.{length, take, drop, length-append}
 use lib.Seq.{take-append-seam, take-length}
-use Rattle.lines.specs.Page.{Puts}
+use Rattle.text.specs.Page.{Puts}
 use Rattle.listing.specs.Front.{atFront, Within}
 
 within : (s p : List ℕ) → Within (length s) (atFront s p)

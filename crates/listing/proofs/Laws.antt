@@ -10,8 +10,8 @@ use Rattle.rig.specs.Words.{takeOf}
 use Rattle.rig.specs.Start.{startRig}
 use Rattle.listing.specs.declared.Lone.the-variants.{Nothing}
 use Rattle.listing.specs.declared.Lister.{Lister}
-use Rattle.lines.specs.Text.{firstLine, linesOf}
-use Rattle.listing.specs.Listing.{wordOf, listingFrom, listingOf, lister, startLister, fedByte, saidByte, fed, said, endOf}
+use Rattle.lines.specs.Text.{linesOf}
+use Rattle.listing.specs.Listing.{wordOf, firstLine, listingFrom, listingOf, lister, startLister, fedByte, saidByte, fed, said, endOf}
 use Rattle.listing.specs.Listing.{joined, listedFrom, InPieces}
 use Rattle.listing.specs.Front.{atFront}
 use Rattle.listing.proofs.Pieces.{fed-append, said-append}

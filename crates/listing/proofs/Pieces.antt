@@ -12,7 +12,7 @@ use Rattle.listing.specs.declared.Lister.{Lister}
 use Rattle.listing.specs.declared.Listed.{Listed}
 use Rattle.listing.specs.Listing.{fedByte, saidByte, fed, said, listed}
 use Rattle.listing.specs.Front.{atFront, Within}
-use Rattle.lines.specs.Page.{Puts}
+use Rattle.text.specs.Page.{Puts}
 use Rattle.listing.proofs.Front.{front}
 
 pub fed-append : (l : Lister) (xs ys : List ℕ) → fed l (xs ++ ys) ≡ fed (fed l xs) ys

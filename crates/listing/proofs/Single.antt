@@ -9,8 +9,6 @@ use Rattle.base.proofs.Single.{same}
 use Rattle.listing.specs.declared.Listed.{Listed}
 use Rattle.listing.proofs.open.Kinds as open-kinds
 use Rattle.listing.proofs.open.Reads as open-reads
-use Rattle.listing.proofs.list.Kinds as list-kinds
-use Rattle.listing.proofs.list.Reads as list-reads
 use Rattle.listing.proofs.finish.Kinds as finish-kinds
 use Rattle.listing.proofs.finish.Reads as finish-reads
 
@@ -18,10 +16,6 @@ use Rattle.listing.proofs.finish.Reads as finish-reads
 pub open-one : (κs : Lfts 1) (a : Dens κs open-kinds.ps) (e f : AtExit (endedOf 1 open-kinds.ps open-kinds.r) κs) (x y : Listed)
     → open-reads.Post κs a x e → open-reads.Post κs a y f → (x ≡ y) × (e .0 .now ≡ f .0 .now)
 open-one κs a e f x y m n = (same (m .0) (n .0), same (m .1) (n .1))
-
-pub list-one : (κs : Lfts 2) (a : Dens κs list-kinds.ps) (e f : AtExit (endedOf 2 list-kinds.ps list-kinds.r) κs) (x y : Listed)
-    → list-reads.Post κs a x e → list-reads.Post κs a y f → (x ≡ y) × (e .1 .1 .1 .0 .now ≡ f .1 .1 .1 .0 .now)
-list-one κs a e f x y m n = (same (m .0) (n .0), same (m .1) (n .1))
 
 pub finish-one : (κs : Lfts 1) (a : Dens κs finish-kinds.ps) (e f : AtExit (endedOf 1 finish-kinds.ps finish-kinds.r) κs) (x y : ℕ)
     → finish-reads.Post κs a x e → finish-reads.Post κs a y f → (x ≡ y) × (e .1 .0 .now ≡ f .1 .0 .now)

@@ -11,7 +11,17 @@ use Rattle.listing.specs.declared.Lone.{Lone}
 use Rattle.listing.specs.declared.Lone.the-variants.{Nothing, High}
 use Rattle.listing.specs.declared.Lister.{Lister}
 use Rattle.listing.specs.declared.Listed.{Listed}
-use Rattle.lines.specs.Text.{firstLine, linesOf, oddLine, lastLine}
+use Rattle.base.specs.Ascii.{ascii}
+use Rattle.lines.specs.Text.{linesOf}
+use Rattle.last_line.specs.LastLine.{lastLine}
+
+-- the first line
+abbrev pub firstLine : List ℕ
+firstLine = ascii "word answer\n"
+
+-- a lone last byte prints "odd byte"
+abbrev pub oddLine : List ℕ
+oddLine = ascii "odd byte\n"
 
 -- Words are read high byte first.
 abbrev pub wordOf : ℕ → ℕ → ℕ

@@ -1,3 +1,2 @@
--- Single outcome of the functions that read a block's bytes, and the law that their proofs are written with.
-pub mod Laws
+-- Single outcome of the functions that read a block's parts.
 pub mod Single

@@ -6,17 +6,12 @@ use Prim.Native.Nat.{ℕ}
 use contract.Lifetimes.{Lfts}
 use denote.Ref.{RefT, now}
 use Rattle.base.proofs.Single.{same}
-use Rattle.block.specs.declared.Layout.{Layout}
 use Rattle.block.specs.declared.Part.{Part}
 use Rattle.block.specs.declared.Located.{Located}
-use Rattle.locating.proofs.layout_of.Reads as layout-of
 use Rattle.locating.proofs.locate.Reads as locate
 use Rattle.locating.proofs.slice_of.Reads as slice-of
 
 module _ (κs : Lfts 1) (b : RefT (List ℕ)) where
-  pub layout-of-one : (r q : Layout) → layout-of.Post κs (b, tt) r (b, tt) → layout-of.Post κs (b, tt) q (b, tt) → r ≡ q
-  layout-of-one r q m n = same m n
-
   pub locate-one : (p : Part) (r q : Located) → locate.Post κs (b, (p, tt)) r (b, (p, tt)) → locate.Post κs (b, (p, tt)) q (b, (p, tt)) → r ≡ q
   locate-one p r q m n = same m n
 

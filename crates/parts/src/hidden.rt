@@ -5,7 +5,7 @@ use block::Kind;
 use block::Layout;
 use block::Located;
 use block::Part;
-use naming::Listed;
+use part_names::Listed;
 
 fn is_hidden(b: &[u8], part: Part) -> bool {
     match locating::locate(b, part) {
@@ -16,7 +16,7 @@ fn is_hidden(b: &[u8], part: Part) -> bool {
 
 // The name of a part after a blank, if it is hidden; and whether it is.
 fn say_if(b: &[u8], n: usize) -> bool {
-    if let Listed::Is(part) = naming::part_in(n) {
+    if let Listed::Is(part) = part_names::part_in(n) {
         if is_hidden(b, part) {
             printing::text(b" ");
             table::say_name(part);
@@ -31,7 +31,7 @@ fn say_hidden(b: &[u8]) {
     printing::text(b" hides");
     let mut none = true;
     let mut n: usize = 0;
-    while n < naming::PARTS {
+    while n < part_names::PARTS {
         if say_if(b, n) {
             none = false;
         }
@@ -70,7 +70,7 @@ fn say_two(name: &[u8], d1: u8, d2: u8) {
 
 // What the block is found to be, and what is hidden.
 fn say_layout(b: &[u8]) {
-    match locating::layout_of(b) {
+    match layout::layout_of(b) {
         Layout::Is(kind, d1, d2) => {
             printing::text(b" read as ");
             samples::say_kind(kind);

@@ -3,10 +3,10 @@
 use block::Kind;
 use block::Located;
 use block::Part;
-use naming::Listed;
+use part_names::Listed;
 
 pub(crate) fn say_name(part: Part) {
-    let name = naming::part_name(part);
+    let name = part_names::part_name(part);
     printing::name(&name);
 }
 
@@ -35,8 +35,8 @@ fn show(b: &[u8], part: Part) {
 fn list(name: &[u8], kind: Kind, d1: u8, d2: u8) {
     let b = samples::made(kind, d1, d2);
     let mut n: usize = 0;
-    while n < naming::PARTS {
-        if let Listed::Is(part) = naming::part_in(n) {
+    while n < part_names::PARTS {
+        if let Listed::Is(part) = part_names::part_in(n) {
             printing::text(name);
             say_name(part);
             show(

@@ -78,7 +78,7 @@ fn show(lister: Lister, word: u16, n: usize, page: &mut [u8; listing::PAGE]) -> 
     let mut piece = [0u8; listing::PIECE];
     piece[0] = (word / 256) as u8;
     piece[1] = (word % 256) as u8;
-    let listed = listing::list(lister, &piece, n, page);
+    let listed = pieces::list(lister, &piece, n, page);
     let len = listed.len;
     let whole: &[u8] = page;
     io::write_all(STDOUT_FILENO, &whole[..len]);

@@ -4,7 +4,7 @@ use base::Frames;
 use cell::Shown;
 use desk::Desk;
 use frame::Item;
-use naming::InRow;
+use item_names::InRow;
 
 fn say_age(age: Frames) {
     printing::text(b" age ");
@@ -22,7 +22,7 @@ fn say_value(item: Item, value: u32) {
 
 // An item's name, and what the desk shows of it.
 pub fn say(desk: Desk, item: Item) {
-    let name = naming::name_of(item);
+    let name = item_names::name_of(item);
     printing::name(&name);
     let shown = desk::look(desk, item);
     match shown {
@@ -35,7 +35,7 @@ pub fn say(desk: Desk, item: Item) {
 }
 
 fn say_row(desk: Desk, row: usize) {
-    if let InRow::Is(item) = naming::item_in(row) {
+    if let InRow::Is(item) = item_names::item_in(row) {
         say(desk, item);
         printing::end();
     }
@@ -74,7 +74,7 @@ fn say_moved(before: Desk, after: Desk, item: Item) {
 }
 
 fn say_row_moved(before: Desk, after: Desk, row: usize) {
-    if let InRow::Is(item) = naming::item_in(row) {
+    if let InRow::Is(item) = item_names::item_in(row) {
         say_moved(before, after, item);
     }
 }

@@ -4,37 +4,6 @@ ghost use mathlib.Core.Path.{_≡_};
 ghost use mathlib.Core.List.{[], _∷_};
 ghost use Rattle.steps.specs.Steps.{sentOne, sentAll, spunTimes};
 use bench::Bench;
-use rig::Answer;
-use rig::Reply;
-
-fn say_answer(answer: Answer) {
-    match answer {
-        Answer::Accepted => printing::text(b" accepted"),
-        Answer::Waiting => printing::text(b" waiting"),
-        Answer::Refused(why) => {
-            printing::text(b" refused ");
-            printing::byte(judge::number(why));
-        }
-    }
-}
-
-fn say(reply: Reply) {
-    match reply {
-        Reply::Plain(answer) => say_answer(answer),
-        Reply::Swallowed => printing::text(b" dropped 03h"),
-        Reply::Dropped(answer) => {
-            printing::text(b" dropped 03h, then");
-            say_answer(answer);
-        }
-    }
-}
-
-fn say_word(word: u16, reply: Reply) {
-    printing::text(b"word ");
-    printing::word(word);
-    say(reply);
-    printing::end();
-}
 
 // A word sent, with its line.
 pub fn send(bench: Bench, word: u16) -> Bench
@@ -42,7 +11,7 @@ pub fn send(bench: Bench, word: u16) -> Bench
 {
     let worded = bench::word(bench, word);
     let reply = worded.reply;
-    say_word(word, reply);
+    telling::word(word, reply);
     worded.bench
 }
 
@@ -66,20 +35,11 @@ pub fn block(bench: Bench, head: u16, first: u16, second: u16, end: u16) -> Benc
     send_all(bench, &[head, first, second, end])
 }
 
-fn say_spins(times: u32) {
-    if times == 1 {
-        printing::text(b"one spin\n");
-    } else {
-        printing::number(times as u64);
-        printing::text(b" spins\n");
-    }
-}
-
 // So many spins.
 pub fn spins(bench: Bench, times: u32) -> Bench
     ensures { λ r. ⌜ r ≡ spunTimes bench times ⌝ }
 {
-    say_spins(times);
+    telling::spins(times);
     let mut b = bench;
     let mut i: u32 = 0;
     while i < times {

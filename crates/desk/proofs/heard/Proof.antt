@@ -3,8 +3,9 @@
 use mathlib.Core.Path.{_∙_}
 use denote.Ref.{now}
 use borrow.Author.Needs.{needs}
-use Rattle.desk.specs.Desk.{toldBy, readingOf}
-use Rattle.desk.proofs.Cells.{cells-same}
+use Rattle.bringing.specs.Bringing.{toldBy}
+use Rattle.desk.specs.Desk.{readingOf}
+use Rattle.cells.proofs.Cells.{cells-same}
 use Rattle.desk.proofs.Readings.{reading-is, half-is}
 use Rattle.desk.proofs.heard.Statement.{statement}
 use Rattle.desk.proofs.heard.Tie as tie

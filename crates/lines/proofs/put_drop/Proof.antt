@@ -1,7 +1,7 @@
 -- `lines::put_drop` meets its contract: the text behind the word, which has the number of a drop.
 -- Assumes nothing.
 use borrow.Author.Needs.{needs}
-use Rattle.lines.specs.Text.{digit}
+use Rattle.text.specs.Digits.{digit}
 use Rattle.lines.proofs.put_drop.Statement.{statement}
 use Rattle.lines.proofs.put_drop.Tie as tie
 

@@ -6,12 +6,11 @@ use Rattle.lines.proofs.put_refused.Tie as tie
 
 returns : tie.Need-returns
 returns c =
-    let b = c .before .before .before .before .before in
-    rw (b .before .digit-of .ensures, b .digit-of2 .ensures) at (c .before .before .put-said .ensures)
+    rw (c .before .before .before .before .before .before .before .hex .ensures) at (c .before .before .put-said .ensures)
 
 pub put-refused-spec : {M : Type 1} → statement M
 put-refused-spec =
     tie.close
     (tie.spec
-    (λ c κs. search needs) (λ c. search needs) (λ c κs. search needs) (λ c. search needs) (λ c. search needs) (λ c κs. search needs)
-    (λ c. search needs) returns)
+    (λ c κs. search needs) (λ c. search needs) (λ c. search needs) (λ c. search needs) (λ c. search needs) (λ c. search needs)
+    (λ c κs. search needs) (λ c. search needs) returns)

@@ -3,9 +3,9 @@
 use denote.Ref.{now}
 use borrow.Author.Needs.{needs}
 use native.Mathlib.Omega.{arith}
-use Rattle.lines.specs.Bounds.{LAST}
-use Rattle.lines.specs.Text.{oddLine}
-use Rattle.lines.proofs.Puts.{chain, fits}
+use Rattle.last_line.specs.LastLine.{LAST}
+use Rattle.listing.specs.Listing.{oddLine}
+use Rattle.text.proofs.Puts.{chain, fits}
 use Rattle.listing.proofs.Front.{front, copied}
 use Rattle.listing.proofs.finish.Statement.{statement}
 use Rattle.listing.proofs.finish.Tie as tie

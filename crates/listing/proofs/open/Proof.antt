@@ -2,7 +2,7 @@
 -- Assumes nothing.
 use denote.Ref.{now}
 use borrow.Author.Needs.{needs}
-use Rattle.lines.specs.Text.{firstLine}
+use Rattle.listing.specs.Listing.{firstLine}
 use Rattle.listing.proofs.Front.{front, copied}
 use Rattle.listing.proofs.open.Statement.{statement}
 use Rattle.listing.proofs.open.Tie as tie

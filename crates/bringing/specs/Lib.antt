@@ -1,0 +1,2 @@
+-- What a frame's bytes show of each item.
+pub mod Bringing

@@ -1,0 +1,2 @@
+-- The cells of all items after a slot.
+pub mod Cells

@@ -1,0 +1,2 @@
+-- The last line of a listing.
+pub mod LastLine

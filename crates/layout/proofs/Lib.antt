@@ -1,0 +1,3 @@
+-- Single outcome, and the law that the proofs are written with.
+pub mod Laws
+pub mod Single

@@ -1,0 +1,3 @@
+-- What holds of names in a text, and single outcome.
+pub mod Texts
+pub mod Single

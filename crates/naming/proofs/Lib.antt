@@ -1,4 +1,0 @@
--- What holds of the names, and single outcome.
-pub mod Texts
-pub mod Laws
-pub mod Single
