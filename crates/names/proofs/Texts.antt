@@ -7,7 +7,7 @@ use Prim.Native.Nat.{ℕ, zero, suc, _+_, _*_, _/_, _≤_, _<_}
 use native.Mathlib.Nat.{not-suc-le-zero, le-of-suc-le-suc}
 use native.Mathlib.Omega.{arith}
 use lib.Dec.{T, eqb}
-use lib.ListN.{length, take, drop, getD}
+use lib.ListN.{length, take, drop, getD, length-append}
 use lib.Seq.{take-at, drop-at, drop-drop}
 use borrow.Author.Tests.{eqb-true, eq-eqb, lt-ltb}
 use Rattle.base.proofs.Cases.{split}
@@ -35,7 +35,7 @@ alike-self [] = refl
 alike-self (x ∷ xs) = rw (eq-eqb x x refl) (alike-self xs)
 
 -- a row of the text has its name
-pub in-row : (names : List ℕ) (k : ℕ) → k < length names / 16 → nameIn names k ≡ take 16 (drop (16 * k) names)
+in-row : (names : List ℕ) (k : ℕ) → k < length names / 16 → nameIn names k ≡ take 16 (drop (16 * k) names)
 unfolding nameIn
 in-row names k h = rw (lt-ltb _ _ h)
 
@@ -45,7 +45,7 @@ module _ {A : Type 0} (name : A → List ℕ) where
   text [] = []
   text (x ∷ xs) = name x ++ text xs
 
-  pub in-text : ((x : A) → length (name x) ≡ 16) → (xs : List A) (d : A) (k : ℕ) → k < length xs → take 16 (drop (16 * k) (text xs)) ≡ name (getD xs k d)
+  in-text : ((x : A) → length (name x) ≡ 16) → (xs : List A) (d : A) (k : ℕ) → k < length xs → take 16 (drop (16 * k) (text xs)) ≡ name (getD xs k d)
   in-text room [] d k h = absurd (not-suc-le-zero h)
   in-text room (x ∷ xs) d zero h = take-at (name x) (text xs) 16 (room x)
   in-text room (x ∷ xs) d (suc k) h =
@@ -54,6 +54,20 @@ module _ {A : Type 0} (name : A → List ℕ) where
       ∙ ap (take 16) (sym (drop-drop (16 * k) 16 (name x ++ text xs)))
       ∙ ap (λ (t : List ℕ). take 16 (drop (16 * k) t)) (drop-at (name x) (text xs) 16 (room x))
       ∙ in-text room xs d k (le-of-suc-le-suc h)
+
+  length-text : ((x : A) → length (name x) ≡ 16) → (xs : List A) → length (text xs) ≡ 16 * length xs
+  length-text room [] = refl
+  length-text room (x ∷ xs) =
+      let n = length-append (name x) (text xs) in
+      let h = length-text room xs in
+      let r = room x in
+      omega (arith, n, h, r)
+
+  -- the name in the row of x, which is k
+  pub named : ((x : A) → length (name x) ≡ 16) → (xs : List A) (d x : A) (i k : ℕ) → k ≡ i → i < length xs → getD xs i d ≡ x → nameIn (text xs) k ≡ name x
+  named room xs d x i k e h f =
+      let n = length-text room xs in
+      rw e (in-row (text xs) i (omega (arith, h, n)) ∙ in-text room xs d i h ∙ ap name f)
 
   -- two rows, or two names
   module _ (at : ℕ → A) (row : A → ℕ) (found : (x : A) → at (row x) ≡ x) (n : ℕ) (within : (x : A) → row x < n) where
