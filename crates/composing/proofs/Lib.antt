@@ -1,2 +1,2 @@
--- Single outcome of the composer's functions.
+-- Single outcome.
 pub mod Single

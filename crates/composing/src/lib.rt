@@ -1,35 +1,15 @@
-// The 40 bytes composed from what is held, and the latch that goes with the frame's index.
+// The 40 bytes composed from what is held and from the latch.
 // Keeps 01 "The 40-byte frame". What stands in each byte is said in crate `frame`; crate `writing` puts the bytes into the caller's buffer.
 ghost use mathlib.Core.Path.{_≡_};
 ghost use Prim.Native.Nat.{_%_};
-ghost use Rattle.frame.specs.Write.{latchOf, quarterOf, groundAt, muxOf, frameOf};
+ghost use Rattle.frame.specs.Write.{quarterOf, groundAt, muxOf, frameOf};
 use frame::Held;
-
-fn wide_16(x: u16) -> u32
-    ensures { λ r. ⌜ r ≡ x ⌝ }
-{
-    x as u32
-}
 
 // The low eight bits.
 fn low(n: u32) -> u8
     ensures { λ r. ⌜ r ≡ n % 256 ⌝ }
 {
     (n % 256) as u8
-}
-
-// The latch once the frame of this index is built: the first frame of a spread number takes that number.
-pub fn latched(held: Held, index: u8, latch: u32) -> u32
-    ensures { λ r. ⌜ r ≡ latchOf held index latch ⌝ }
-{
-    let i = index % 32;
-    if i == 0 {
-        return held.long;
-    }
-    if i == 27 {
-        return wide_16(held.free);
-    }
-    latch
 }
 
 fn byte_37(held: Held, index: u8) -> u8

@@ -76,7 +76,7 @@ fn heard(desk: Desk, frame: &[u8], i: u8, b: u8) -> Desk
 pub fn slot(desk: Desk, frame: &[u8]) -> Received
     ensures { λ r. ⌜ r ≡ slotOf desk (now (frame .entry)) ⌝ }
 {
-    let came = frame::arrival(frame);
+    let came = arriving::arrival(frame);
     match came {
         Arrived::Whole(i, b) => Received {
             answer: Answer::Heard,

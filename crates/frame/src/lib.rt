@@ -1,8 +1,7 @@
-// The 40-byte housekeeping frame: what it shows, and what arrived in a slot. Crate `writing` writes it, `reading` reads the items.
-// Keeps 01 "The 40-byte frame"; a frame the desk cannot take is 17.
+// The 40-byte housekeeping frame: what it shows. Crate `writing` writes it, `arriving` tells what arrived in a slot, `reading` reads the items.
+// Keeps 01 "The 40-byte frame"; the numbers 17 and 18.
 ghost use mathlib.Core.Path.{_≡_};
 ghost use Rattle.frame.specs.Items.{rowOf, numberOf};
-ghost use Rattle.frame.specs.Read.{allAre, arrivedOf};
 
 // What a frame shows: the present value of each item, in the order of the rows. A switch is 0 or 1.
 pub struct Held {
@@ -135,34 +134,4 @@ pub fn row_of(item: Item) -> usize
         Item::LongCounter => 25,
         Item::FreeTime => 26,
     }
-}
-
-// Are the bytes all b?
-fn filled(frame: &[u8], b: u8) -> bool
-    ensures { λ r. ⌜ r ≡ allAre b (now (frame .entry)) ⌝ }
-{
-    let mut i = 0;
-    while i < frame.len() {
-        if frame[i] != b {
-            return false;
-        }
-        i += 1;
-    }
-    true
-}
-
-// What arrived: 40 equal bytes C0h or FFh are fill, though the low five bits of C0h would make frame 0.
-pub fn arrival(frame: &[u8]) -> Arrived
-    ensures { λ r. ⌜ r ≡ arrivedOf (now (frame .entry)) ⌝ }
-{
-    if frame.len() != 40 {
-        return Arrived::Refused(Refusal::NotForty);
-    }
-    if filled(frame, 0xC0) {
-        return Arrived::FillC0;
-    }
-    if filled(frame, 0xFF) {
-        return Arrived::FillFF;
-    }
-    Arrived::Whole(frame[0] % 32, frame[39])
 }

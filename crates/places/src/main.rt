@@ -72,7 +72,7 @@ fn rooms(places: &[usize]) {
 
 // The index of a whole frame.
 fn say_index(s: &[u8]) {
-    match frame::arrival(s) {
+    match arriving::arrival(s) {
         Arrived::Whole(i, _) => {
             printing::text(b" index ");
             printing::small(i);

@@ -95,7 +95,7 @@ pub fn build(rig: Rig, buf: &mut [u8], at: usize) -> Built
     let held = held_of(rig);
     let sending = rig.sending;
     let next = sending.next;
-    let latch = composing::latched(held, next, sending.latch);
+    let latch = latching::latched(held, next, sending.latch);
     let wrote = writing::write_at(held, next, latch, buf, at);
     let after = sent_if(rig, latch, wrote);
     Built { rig: after, wrote }

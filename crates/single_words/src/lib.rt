@@ -45,7 +45,7 @@ fn relay_to(core: Core, on: bool) -> Core
     ensures { λ r. ⌜ r ≡ relayTo core on ⌝ }
 {
     let was = core.stop;
-    let stop = supply::set_relay(was, on);
+    let stop = relaying::set_relay(was, on);
     let mut next = core;
     next.stop = stop;
     next
@@ -54,7 +54,7 @@ fn relay_to(core: Core, on: bool) -> Core
 fn set_relay(core: Core, low: u8) -> Verdict
     ensures { λ r. ⌜ r ≡ relayCmd core low ⌝ }
 {
-    let word = supply::relay_of(low);
+    let word = relaying::relay_of(low);
     match word {
         RelayWord::On => Verdict::Apply(relay_to(core, true)),
         RelayWord::Off => Verdict::Apply(relay_to(core, false)),
@@ -115,10 +115,10 @@ pub fn single(core: Core, code: u8, low: u8) -> Verdict
         0x08 => set_relay(core, low),
         0x0C => set_iel(core, low),
         0x26 => set_mask(core, low),
-        0x28 => carry(core, supply::set_target(stop, low)),
-        0x29 => carry(core, supply::set_limit(stop, low)),
+        0x28 => carry(core, targeting::set_target(stop, low)),
+        0x29 => carry(core, targeting::set_limit(stop, low)),
         0x2B => set_mode(core, low),
-        0x2D => carry(core, supply::set_stepping(stop, low)),
+        0x2D => carry(core, targeting::set_stepping(stop, low)),
         _ => Verdict::Deny(Refusal::UnknownCode),
     }
 }

@@ -1,9 +1,9 @@
--- `composing::latched` meets its contract: the two tests of `latchOf`.
+-- `latching::latched` meets its contract: the two tests of `latchOf`.
 -- Assumes nothing.
 use borrow.Author.Needs.{needs}
 use borrow.Author.Tests.{eq-eqb, ne-eqb}
-use Rattle.composing.proofs.latched.Statement.{statement}
-use Rattle.composing.proofs.latched.Tie as tie
+use Rattle.latching.proofs.latched.Statement.{statement}
+use Rattle.latching.proofs.latched.Tie as tie
 
 returns : tie.Need-returns
 returns c = simp (eq-eqb _ _ (c .if1 .taken))

@@ -1,10 +1,10 @@
--- `frame::arrival` meets its contract: the length, then the two fills, as `arrivedOf` asks.
+-- `arriving::arrival` meets its contract: the length, then the two fills, as `arrivedOf` asks.
 -- Assumes nothing.
 use borrow.Author.Needs.{needs}
 use borrow.Author.Tests.{eq-eqb, ne-eqb}
 use Rattle.frame.specs.Read.{arrivedOf}
-use Rattle.frame.proofs.arrival.Statement.{statement}
-use Rattle.frame.proofs.arrival.Tie as tie
+use Rattle.arriving.proofs.arrival.Statement.{statement}
+use Rattle.arriving.proofs.arrival.Tie as tie
 
 returns : tie.Need-returns
 unfolding arrivedOf

@@ -1,8 +1,8 @@
--- `supply::relay_of` meets its contract: each return by the bits that led there.
+-- `relaying::relay_of` meets its contract: each return by the bits that led there.
 -- Assumes nothing.
 use Rattle.supply.specs.Rules.{relayOf}
-use Rattle.supply.proofs.relay_of.Statement.{statement}
-use Rattle.supply.proofs.relay_of.Tie as tie
+use Rattle.relaying.proofs.relay_of.Statement.{statement}
+use Rattle.relaying.proofs.relay_of.Tie as tie
 
 returns : tie.Need-returns
 unfolding relayOf

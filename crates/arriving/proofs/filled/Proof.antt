@@ -1,4 +1,4 @@
--- `frame::filled` meets its contract. The invariant: what is left of the bytes decides.
+-- `arriving::filled` meets its contract. The invariant: what is left of the bytes decides.
 -- Assumes nothing.
 use Prim.Native.Nat.{ℕ, _+_, _<_, _≤_, _-_}
 use mathlib.Core.Path.{_≡_, _∙_, sym}
@@ -9,9 +9,9 @@ use lib.ListN.{length, drop, getD, drop-of-length-le}
 use lib.Seq.{drop-cons}
 use borrow.Author.Tests.{eq-eqb, ne-eqb}
 use borrow.Author.Needs.{needs}
 use Rattle.frame.specs.Read.{allAre}
-use Rattle.frame.proofs.filled.Statement.{statement}
-use Rattle.frame.proofs.filled.Tie as tie
+use Rattle.arriving.proofs.filled.Statement.{statement}
+use Rattle.arriving.proofs.filled.Tie as tie
 
 all-stop : (b : ℕ) (f : List ℕ) (i : ℕ) → i < length f → (getD f i 0 ≡ b → ⊥) → allAre b (drop i f) ≡ false
 unfolding allAre

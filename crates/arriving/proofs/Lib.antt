@@ -1,0 +1,2 @@
+-- Single outcome.
+pub mod Single
