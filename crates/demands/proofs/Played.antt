@@ -1,4 +1,4 @@
--- Each step of a run is what the functions of `bench`, `slots` and `passing` do: from their contracts, and what a buffer with room holds once a frame is built.
+-- Each step of a run is what the functions of `bench`, `slots`, `passing` and `losing` do: from their contracts, and what a buffer with room holds once a frame is built.
 -- Assumes nothing.
 use mathlib.Core.Path.{_≡_, refl, _∙_, ap, sym}
 use mathlib.Core.List.{List, [], _∷_}

@@ -1,4 +1,4 @@
--- Each step of a run (specs/Queue) is what the functions of `bench`, `slots` and `passing` do to its rig and desk: said of each function's own contract
+-- Each step of a run (specs/Queue) is what the functions of `bench`, `slots`, `passing` and `losing` do to its rig and desk: said of each function's own contract
 -- (`Reads.Pre`, `Reads.Post`), so that a changed `requires` or `ensures` is seen here. So the demands, said of runs, are said of code that runs. Assumes nothing.
 -- Where a slice is lent, a is the arguments and e what the call leaves of them.
 use mathlib.Core.Path.{_≡_}
@@ -33,8 +33,8 @@ use Rattle.slots.proofs.hand.Kinds as hand-kinds
 use Rattle.slots.proofs.miss.Reads as miss-fn
 use Rattle.passing.proofs.arrives.Reads as arrives-fn
 use Rattle.passing.proofs.arrives.Kinds as arrives-kinds
-use Rattle.passing.proofs.lost.Reads as lost-fn
-use Rattle.passing.proofs.lost.Kinds as lost-kinds
+use Rattle.losing.proofs.lost.Reads as lost-fn
+use Rattle.losing.proofs.lost.Kinds as lost-kinds
 use Rattle.laws.specs.Runs.{FitsPanel}
 use Rattle.demands.specs.Outfit.{proved, fillC0, fillFF}
 use Rattle.demands.specs.Queue.{Line, word, spin, set, cut, noRoom, marked, C0, FF, Step, alone, built, came, gone, idle, torn, begin, step}

@@ -118,7 +118,7 @@ fn say_line(bench: Bench, kind: u32, slot: u32, f: &[u8; 40], shows: Shows) {
 // A slot whose frame is lost.
 fn lose(bench: Bench, kind: u32, slot: u32, shows: Shows) -> Bench {
     let mut f = [0u8; 40];
-    let next = passing::lost(bench, &mut f, 0).bench;
+    let next = losing::lost(bench, &mut f, 0).bench;
     say_line(next, kind, slot, &f, shows);
     next
 }

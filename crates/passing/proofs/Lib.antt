@@ -1,2 +1,2 @@
--- Single outcome of a frame built and passed.
+-- Single outcome of a frame built and handed on.
 pub mod Single

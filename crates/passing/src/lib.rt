@@ -1,10 +1,9 @@
-// A frame built and its slot passed at once: handed on whole, or lost.
+// A frame built, and handed to the desk at once.
 // Keeps 01 "The 40-byte frame"; where there is no room (18) no slot passes. What the bench then is is said in crate `slots`.
 ghost use mathlib.Core.Path.{_≡_};
 ghost use Rattle.sending.specs.Sending.{filledOf};
-ghost use Rattle.slots.specs.Slots.{arrivedBench, lostBench};
+ghost use Rattle.slots.specs.Slots.{arrivedBench};
 use bench::Bench;
-use desk::Answer;
 use frame::Wrote;
 use slots::Outcome;
 use slots::Passed;
@@ -25,28 +24,6 @@ pub fn arrives(bench: Bench, buf: &mut [u8], at: usize) -> Passed
             Passed {
                 bench: next,
                 outcome: Outcome::Slot(answer),
-            }
-        }
-        Wrote::Refused(why) => Passed {
-            bench: after,
-            outcome: Outcome::NoFrame(why),
-        },
-    }
-}
-
-// The next frame is built at a place of the caller's buffer, and its slot is marked missed. Where there is no room (18) no slot passes.
-pub fn lost(bench: Bench, buf: &mut [u8], at: usize) -> Passed
-    ensures { λ r. ⌜ (r ≡ lostBench bench (now (buf .entry)) at) × (now (buf .exit) ≡ filledOf (bench .rig) (now (buf .entry)) at) ⌝ }
-{
-    let sent = slots::build(bench, buf, at);
-    let wrote = sent.wrote;
-    let after = sent.bench;
-    match wrote {
-        Wrote::Done => {
-            let gone = slots::miss(after);
-            Passed {
-                bench: gone,
-                outcome: Outcome::Slot(Answer::Missed),
             }
         }
         Wrote::Refused(why) => Passed {

@@ -1,4 +1,4 @@
--- `passing::lost` meets its contract: where the frame was written its slot is a miss, and where there was no room no slot passes.
+-- `losing::lost` meets its contract: where the frame was written its slot is a miss, and where there was no room no slot passes.
 -- Assumes nothing.
 use mathlib.Core.Path.{_≡_, sym, ap, _∙_}
 use borrow.Author.Needs.{needs}
@@ -10,8 +10,8 @@ use Rattle.desk.specs.declared.Received.{Received}
 use Rattle.desk.specs.Desk.{missedOf}
 use Rattle.slots.specs.declared.Sent.{Sent}
 use Rattle.slots.proofs.Place.{lost-on, refused}
-use Rattle.passing.proofs.lost.Statement.{statement}
-use Rattle.passing.proofs.lost.Tie as tie
+use Rattle.losing.proofs.lost.Statement.{statement}
+use Rattle.losing.proofs.lost.Tie as tie
 
 returns : tie.Need-returns
 returns c =

@@ -1,0 +1,2 @@
+-- Single outcome of a frame built and lost.
+pub mod Single
