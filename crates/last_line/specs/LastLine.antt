@@ -1,13 +1,11 @@
 -- The last line of a listing, as a list of bytes, and how long it gets (01, "Bench cases": the lister's text).
 -- Assumes nothing.
-use Prim.Native.Nat.{ℕ, _+_, _/_, _%_}
-use mathlib.Core.List.{List, [], _∷_, _++_}
-use lib.Dec.{ltb}
-use lib.ListN.{drop}
-use Rattle.base.specs.Pick.{pick}
+use Prim.Native.Nat.{ℕ, _+_}
+use mathlib.Core.List.{List, _++_}
 use Rattle.base.specs.Ascii.{ascii}
 use Rattle.rig.specs.declared.Faults.{Faults}
-use Rattle.text.specs.Digits.{digit, hexByte}
+use Rattle.text.specs.Digits.{hexByte}
+use Rattle.numerals.specs.Decimal.{decimal}
 
 -- " last 28 code 06" and the line feed, behind "invalid 255"
 abbrev pub CODES : ℕ
@@ -15,16 +13,6 @@ CODES = 17
 
 abbrev pub LAST : ℕ
 LAST = 11 + CODES
-
--- a number below 1000 in decimal, with no zeros in front
-unfoldable pub zerosOf : ℕ → ℕ
-zerosOf n = pick (ltb n 10) 2 (pick (ltb n 100) 1 0)
-
-abbrev pub threeDigits : ℕ → List ℕ
-threeDigits n = digit (n / 100) ∷ digit (n / 10 % 10) ∷ digit (n % 10) ∷ []
-
-abbrev pub decimal : ℕ → List ℕ
-decimal n = drop (zerosOf n) (threeDigits n)
 
 -- The last line: the invalid count is decimal, the rest two hex digits.
 abbrev pub codesOf : ℕ → ℕ → List ℕ

@@ -1,50 +1,14 @@
 // The last line of a listing, put into a page that the caller lends, at a place.
 // Keeps 01 "Bench cases": the lister's last line.
 ghost use mathlib.Core.Path.{_≡_};
-ghost use Prim.Native.Nat.{_+_, _≤_, _<_};
+ghost use Prim.Native.Nat.{_+_, _≤_};
 ghost use lib.ListN.{length};
-ghost use Rattle.text.specs.Digits.{digit};
 ghost use Rattle.text.specs.Page.{Puts, fitting};
-ghost use Rattle.last_line.specs.LastLine.{LAST, zerosOf, threeDigits, decimal, codesOf, lastLine};
+ghost use Rattle.last_line.specs.LastLine.{LAST, codesOf, lastLine};
 use rig::Faults;
 
 // How long the line gets at most.
 pub const LAST: usize = 28;
-
-fn figure(d: u8) -> u8
-    requires { ⌜ d < 10 ⌝ }
-    ensures { λ r. ⌜ r ≡ digit d ⌝ }
-{
-    b'0' + d
-}
-
-// How many of three digits are zeros in front.
-fn zeros(n: u8) -> usize
-    ensures { λ r. ⌜ (r ≡ zerosOf n) × (r < 3) ⌝ }
-{
-    if n < 10 {
-        return 2;
-    }
-    if n < 100 {
-        return 1;
-    }
-    0
-}
-
-fn three_digits(n: u8) -> [u8; 3]
-    ensures { λ r. ⌜ r ≡ threeDigits n ⌝ }
-{
-    [figure(n / 100), figure(n / 10 % 10), figure(n % 10)]
-}
-
-fn put_decimal(n: u8, page: &mut [u8], at: usize) -> usize
-    requires { ⌜ at + 3 ≤ length (now page) ⌝ }
-    ensures { λ r. ⌜ Puts at (decimal n) (now (page .entry)) r (now (page .exit)) × (r ≤ at + 3) ⌝ }
-{
-    let digits = three_digits(n);
-    let skip = zeros(n);
-    text::put(&digits[skip..], page, at)
-}
 
 // The end of the last line.
 fn codes_of(last: u8, error: u8) -> [u8; 17]
@@ -65,7 +29,7 @@ fn put_faults(faults: Faults, page: &mut [u8], at: usize) -> usize
     ensures { λ r. ⌜ Puts at (lastLine faults) (now (page .entry)) r (now (page .exit)) ⌝ }
 {
     let count = text::put(b"invalid ", page, at);
-    let behind = put_decimal(faults.count, page, count);
+    let behind = numerals::put_decimal(base::wide(faults.count), page, count);
     let codes = codes_of(faults.last, faults.error);
     text::put(&codes, page, behind)
 }

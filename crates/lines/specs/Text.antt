@@ -3,17 +3,13 @@
 use Prim.Native.Nat.{ℕ}
 use mathlib.Core.List.{List, _++_}
 use Rattle.judge.specs.Refusals.{numberOf}
-use Rattle.rig.specs.Words.{dropNumber, highOf, lowOf}
+use Rattle.rig.specs.Words.{dropNumber}
 use Rattle.rig.specs.declared.Answer.{Answer}
 use Rattle.rig.specs.declared.Answer.the-variants.{Accepted, Waiting, Refused}
 use Rattle.rig.specs.declared.Reply.{Reply}
 use Rattle.rig.specs.declared.Reply.the-variants.{Plain, Swallowed, Dropped}
 use Rattle.base.specs.Ascii.{ascii}
-use Rattle.text.specs.Digits.{hexByte}
-
--- a word as four hex digits
-abbrev pub hexWord : ℕ → List ℕ
-hexWord word = hexByte (highOf word) ++ hexByte (lowOf word)
+use Rattle.text.specs.Digits.{hexByte, hexWord}
 
 -- What an answer says: "accepted", "waiting", or "refused" and the paper's number of the refusal.
 abbrev pub answerText : Answer → List ℕ

@@ -5,10 +5,10 @@ ghost use mathlib.Core.List.{_++_};
 ghost use Prim.Native.Nat.{_+_, _≤_};
 ghost use lib.ListN.{length};
 ghost use Rattle.base.specs.Ascii.{ascii};
-ghost use Rattle.text.specs.Digits.{hexByte};
+ghost use Rattle.text.specs.Digits.{hexByte, hexWord};
 ghost use Rattle.text.specs.Page.{Puts, fitting};
 ghost use Rattle.lines.specs.Bounds.{WORD, LINE, DROP, PAIR};
-ghost use Rattle.lines.specs.Text.{hexWord, answerLine, droppedLine, linesOf};
+ghost use Rattle.lines.specs.Text.{answerLine, droppedLine, linesOf};
 use rig::Answer;
 use rig::Reply;
 
@@ -19,20 +19,12 @@ pub const DROP: usize = 16;
 
 pub const PAIR: usize = DROP + LINE;
 
-fn word_digits(word: u16) -> [u8; 4]
-    ensures { λ r. ⌜ r ≡ hexWord word ⌝ }
-{
-    let high = text::hex((word / 256) as u8);
-    let low = text::hex((word % 256) as u8);
-    [high[0], high[1], low[0], low[1]]
-}
-
 // A word, and a text behind it.
 fn put_said(word: u16, said: &[u8], page: &mut [u8], at: usize) -> usize
     requires { ⌜ at + WORD + length (now said) ≤ length (now page) ⌝ }
     ensures { λ r. ⌜ Puts at (hexWord word ++ now (said .entry)) (now (page .entry)) r (now (page .exit)) ⌝ }
 {
-    let digits = word_digits(word);
+    let digits = text::hex_word(word);
     let next = text::put(&digits, page, at);
     text::put(said, page, next)
 }

@@ -8,7 +8,7 @@ use Rattle.judge.specs.Commands.{carried, singleOf}
 use Rattle.rig.specs.Words.{takeOf, freshOf, settledOf, refusedOf, kindOf}
 use Rattle.base.specs.Ascii.{ascii}
 use Rattle.text.specs.Digits.{digit}
-use Rattle.last_line.specs.LastLine.{zerosOf}
+use Rattle.numerals.specs.Decimal.{decimal}
 use Rattle.listing.specs.Listing.{listingOf}
 
 -- 01's lines
@@ -23,5 +23,5 @@ printed =
     ++ ascii "invalid 1 last 28 code 06\n"
 
 pub example : listingOf (0x08 ∷ 0x02 ∷ 0x2D ∷ 0x01 ∷ 0x29 ∷ 0x0A ∷ 0x28 ∷ 0x0B ∷ 0x28 ∷ 0x05 ∷ []) ≡ printed
-unfolding relayOf targeted limited switched carried singleOf takeOf freshOf settledOf refusedOf kindOf digit zerosOf
+unfolding relayOf targeted limited switched carried singleOf takeOf freshOf settledOf refusedOf kindOf digit decimal
 example = refl

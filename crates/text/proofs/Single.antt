@@ -8,11 +8,15 @@ use denote.Triple.Clauses.{AtExit}
 use borrow.Fn.Kinds.{Dens, endedOf}
 use Rattle.base.proofs.Single.{same}
 use Rattle.text.proofs.hex.Reads as hex
+use Rattle.text.proofs.hex_word.Reads as hex-word
 use Rattle.text.proofs.put.Kinds as put-kinds
 use Rattle.text.proofs.put.Reads as put
 
 pub hex-one : (b : ℕ) (r q : List ℕ) → hex.Post tt (b, tt) r (b, tt) → hex.Post tt (b, tt) q (b, tt) → r ≡ q
 hex-one b r q m n = same m n
+
+pub hex-word-one : (w : ℕ) (r q : List ℕ) → hex-word.Post tt (w, tt) r (w, tt) → hex-word.Post tt (w, tt) q (w, tt) → r ≡ q
+hex-word-one w r q m n = same m n
 
 -- a: the arguments; e and f: what two calls leave of them, of which the page's content is free to change
 pub put-one : (κs : Lfts 2) (a : Dens κs put-kinds.ps) (e f : AtExit (endedOf 2 put-kinds.ps put-kinds.r) κs) (x y : ℕ)

@@ -1,7 +1,6 @@
 -- `last_line::put_last_line` meets its contract: the line where the longest fits, and elsewhere nothing.
 -- Assumes nothing.
 use mathlib.Core.Path.{sym, _∙_}
-use native.Mathlib.Omega.{arith}
 use borrow.Author.Needs.{needs}
 use borrow.Author.Tests.{leb-true}
 use Rattle.text.proofs.Puts.{fit, left-out}

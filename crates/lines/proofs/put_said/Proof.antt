@@ -11,7 +11,7 @@ returns : tie.Need-returns
 returns c =
     let b = c .before .before .before .before .before .before in
     let d = b .before .before .before in
-    let digits = fits WORD (d .before .before .before .args .at) (omega arith) (rw (d .word-digits .ensures) at (b .put .ensures)) in
+    let digits = fits WORD (d .before .before .before .args .at) (omega arith) (rw (d .hex-word .ensures) at (b .put .ensures)) in
     chain digits (fits _ (b .put .result) (omega (arith, digits .place)) (c .before .before .put2 .ensures)) (omega arith)
 
 pub put-said-spec : {M : Type 1} → statement M

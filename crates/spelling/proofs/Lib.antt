@@ -1,0 +1,3 @@
+-- What `same` is true of, and single outcome.
+pub mod Equal
+pub mod Single

@@ -1,0 +1,2 @@
+-- Whether two texts are the same.
+pub mod Same

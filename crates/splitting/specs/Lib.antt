@@ -1,0 +1,3 @@
+-- The words of a line, and the laws of them.
+pub mod Words
+pub mod Laws
