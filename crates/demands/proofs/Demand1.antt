@@ -20,6 +20,7 @@ use Rattle.demands.specs.Outfit.{proved}
 use Rattle.demands.specs.Demand1.{Demand1For}
 use Rattle.demands.proofs.Numbers.{all-numbers}
 use Rattle.demands.proofs.Orders.{part-order, event-order-01, ifft-event-order, ifft-item-order}
+use Rattle.demands.proofs.Menu.{write-order, write-untouched, write-put, read-none, read-some}
 
 with-room : (r : Rig) (b : List ℕ) (at : ℕ) → at + 40 ≤ length b → _≡_ {A = Built} (builtOf r b at) (record { rig = sent r; wrote = Done })
 with-room r b at h = simp (le-ltb _ _ h)
@@ -44,4 +45,9 @@ demand-1 =
       ifftItem = ifft-item-order;
       empty = part-none;
       filled = part-length;
+      write = write-order;
+      untouched = write-untouched;
+      written = write-put;
+      read38 = read-none;
+      read = read-some;
     }

@@ -23,6 +23,8 @@ use Rattle.block.proofs.Cover.{cover}
 use Rattle.block.proofs.Unread.{unread-alike}
 use Rattle.event.specs.Ifft.{itemAt}
 use Rattle.event.proofs.Directions.{reader-inverts, gives-back}
+use Rattle.wording.proofs.Sent.{sends}
+use Rattle.wording.proofs.Laws.{laws as wording-laws}
 use Rattle.demands.specs.Outfit.{proved}
 use Rattle.demands.specs.Demand2.{Demand2For}
 use Rattle.demands.proofs.Held.{held-table, settles}
@@ -45,6 +47,8 @@ demand-2 =
     record {
       rows = row-laws;
       blocks = block-laws;
+      menu = sends;
+      wording = wording-laws;
       table = table-laws;
       parts = parts;
       start = refl;

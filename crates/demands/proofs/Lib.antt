@@ -9,6 +9,7 @@ pub mod AnyDesk
 pub mod Held
 pub mod Numbers
 pub mod Orders
+pub mod Menu
 pub mod Demand1
 pub mod Demand2
 pub mod Demand3

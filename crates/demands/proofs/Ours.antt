@@ -10,7 +10,7 @@ use Rattle.block.specs.declared.Located.{Located}
 use Rattle.block.specs.Parts.{bytesOf, partOf}
 use Rattle.locating.proofs.locate.Reads as locate-fn
 use Rattle.locating.proofs.slice_of.Reads as slice-fn
-use Rattle.demands.specs.Ours.{OurOutfit, OurBlocks}
+use Rattle.demands.specs.Ours.{OurOutfit, OurBlocks, OurWords}
 
 pub our-outfit : OurOutfit
 our-outfit =
@@ -67,4 +67,15 @@ our-blocks =
       asks-wordNumber = λ r. tt;
       asks-frameNumber = λ r. tt;
       asks-blockNumber = λ r. tt;
+    }
+
+pub our-words : OurWords
+our-words =
+    record {
+      write = λ κs a e x m. m;
+      read = λ κs ws x m. m;
+      wordingNumber = λ r n m. m;
+      asks-write = λ κs a. tt;
+      asks-read = λ κs ws. tt;
+      asks-wordingNumber = λ r. tt;
     }

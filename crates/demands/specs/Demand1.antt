@@ -1,7 +1,8 @@
--- Demand 1: each entry point takes every word, frame and buffer length and ends with a definite answer. Bad input is refused by a number from 01's table,
+-- Demand 1: each entry point takes every word, frame and buffer length and ends with a definite answer. Bad input is refused by a number of 01 or 02,
 -- and what a refusal changes in the rig, the desk and a lent buffer is exactly what the rules list. That each function answers at all is what its proof
 -- says; the fields below say how, where it refuses. They hold for every rig, desk, buffer and block, also those that no run reaches. Assumes nothing.
 use mathlib.Core.Path.{_≡_}
+use mathlib.Core.Logic.{_⊎_}
 use mathlib.Core.List.{List, [], _++_}
 use Prim.Native.Nat.{ℕ, _+_, _≤_, _<_}
 use lib.ListN.{length, take, drop}
@@ -22,7 +23,12 @@ use Rattle.block.specs.Order.{numberIn}
 use Rattle.event.specs.Event.{directOf}
 use Rattle.event.specs.Ifft.{eventOf, itemOf}
 use Rattle.event.specs.Order.{eventNumber, itemNumber}
-use Rattle.demands.specs.Orders.{firstIn, ofPart, ofEvent, ofIfft}
+use Rattle.wording.specs.declared.Command.{Command}
+use Rattle.wording.specs.declared.Wrote.the-variants.{Words}
+use Rattle.wording.specs.Written.{wordsOf, wroteOf, writtenOf}
+use Rattle.wording.specs.Meaning.{readOf}
+use Rattle.wording.specs.Laws.{OneSingle, OneBlock}
+use Rattle.demands.specs.Orders.{firstIn, ofPart, ofEvent, ofIfft, need, ofWrite, writeNumber, readNumber}
 use Rattle.demands.specs.Outfit.{Outfit, fillC0, fillFF}
 use Rattle.demands.specs.Numbers.{Numbers}
 use Rattle.demands.specs.AnyDesk.{IsWhole}
@@ -54,3 +60,12 @@ pub record Demand1For (o : Outfit) : Type 0 where
   -- a refused part is handed back empty, and a located one is not empty
   pub empty : (b : List ℕ) (p : Part) (r : Refusal) → locateOf b p ≡ located.Refused r → partOf b p ≡ []
   pub filled : (b : List ℕ) (p : Part) (at n : ℕ) → locateOf b p ≡ located.At at n → (0 < n) × (length (partOf b p) ≡ n)
+  -- 25 and 26, of any command and any buffer, in 02's order: 25 a setting too wide, then 26 fewer words of room than the command has
+  pub write : (c : Command) (out : List ℕ) → writeNumber (wroteOf c (length out)) ≡ firstIn (ofWrite c out)
+  -- a refused write leaves the buffer; one that is not refused puts the command's words at its front and leaves those behind them
+  pub untouched : (c : Command) (out : List ℕ) → (writeNumber (wroteOf c (length out)) ≡ 0 → ⊥) → writtenOf c out ≡ out
+  pub written : (c : Command) (out : List ℕ) → writeNumber (wroteOf c (length out)) ≡ 0
+      → (wroteOf c (length out) ≡ Words (need c)) × (writtenOf c out ≡ wordsOf c ++ drop (need c) out)
+  -- 38, of any words: exactly if they are neither one single nor one block of 01
+  pub read38 : (ws : List ℕ) → (OneSingle ws → ⊥) → (OneBlock ws → ⊥) → readNumber (readOf ws) ≡ 38
+  pub read : (ws : List ℕ) → OneSingle ws ⊎ OneBlock ws → readNumber (readOf ws) ≡ 0

@@ -1,5 +1,5 @@
 -- Demand 2: each command word, spin and power cut changes the rig as the Guide, with our rules for its gaps, says. Frames are written and read by its
--- layout; nominal and burst blocks are taken apart by its tables. Assumes nothing.
+-- layout; nominal and burst blocks are taken apart by its tables. What is written of a command reaches the judgement of its settings. Assumes nothing.
 use mathlib.Core.Path.{_≡_}
 use mathlib.Core.Bool.{true, not}
 use mathlib.Core.List.{List, [], _∷_}
@@ -33,6 +33,7 @@ use Rattle.event.specs.declared.Direction.{Direction}
 use Rattle.event.specs.declared.Direction.the-variants.{Head}
 use Rattle.event.specs.Event.{dOf, hasD, directionOf, eventAt}
 use Rattle.event.specs.Ifft.{itemAt}
+use Rattle.wording.specs.Laws.{Sends, WordingLaws}
 use Rattle.demands.specs.Outfit.{Outfit}
 use Rattle.demands.specs.Held.{HeldTable, Settles}
 use Rattle.demands.specs.AnyDesk.{SlotLaws}
@@ -43,6 +44,10 @@ pub record Demand2For (o : Outfit) : Type 0 where
   pub rows : RowLaws (o .rig .take)
   -- a whole block, from its head to its end word, by the list of its data bytes
   pub blocks : BlockLaws (o .rig .take)
+  -- the words that are written of a command, sent with nothing pending: all but the last wait, and the last reaches 01's judgement of the settings
+  pub menu : Sends (o .rig .take)
+  -- what is written is read back as it was; what is read is written with ignored bits at 0 and the check to match
+  pub wording : WordingLaws
   -- the lists of codes, the bits that are read and those that are not
   pub table : TableLaws
   -- one part of a record replaced, and no other: what every rule is written with

@@ -1,4 +1,4 @@
--- The number of every refusal, as 01 "What the numbers mean" lists them: on the left what our definitions give, on the right the paper's.
+-- The number of every refusal, as 01 "What the numbers mean" and 02 (i) list them: on the left what our definitions give, on the right the paper's.
 -- Assumes nothing.
 use mathlib.Core.Path.{_≡_}
 use mathlib.Core.List.{List, [], _∷_}
@@ -13,6 +13,8 @@ use Rattle.frame.specs.Items as frame
 use Rattle.frame.specs.declared.Refusal.the-variants.{NotForty, NoRoom}
 use Rattle.block.specs.Refusals as block
 use Rattle.block.specs.declared.Refusal.the-variants.{NoMarker, WrongLength, InnerMarker, Beyond, Hidden, NotIfft}
+use Rattle.wording.specs.Refusals as wording
+use Rattle.wording.specs.declared.Refusal.the-variants as wordingRefusal
 
 abbrev pub numbers : List (ℕ × ℕ)
 numbers =
@@ -47,6 +49,10 @@ numbers =
     ∷ (block.numberOf Beyond, 22)
     ∷ (block.numberOf Hidden, 23)
     ∷ (block.numberOf NotIfft, 24)
+    -- a command's words: a setting too wide, too few words of room; words that are not one command
+    ∷ (wording.numberOf wordingRefusal.TooWide, 25)
+    ∷ (wording.numberOf wordingRefusal.NoRoom, 26)
+    ∷ (wording.numberOf wordingRefusal.NotOne, 38)
     ∷ []
 
 abbrev pub Same : List (ℕ × ℕ) → Type 0

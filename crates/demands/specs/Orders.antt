@@ -1,5 +1,5 @@
--- 01's order of the numbers 19 to 24, of any bytes: the first whose condition holds.
--- Keeps 01 "What the numbers mean"; said in 01's own numbers, apart from the tests that `block` and `event` are written with. Assumes nothing.
+-- 01's order of the numbers 19 to 24, of any bytes, and 02's of 25 and 26, of any command and buffer: the first whose condition holds.
+-- Keeps 01 "What the numbers mean" and 02 (i); said in their own numbers, apart from the tests that `block`, `event` and `wording` are written with. Assumes nothing.
 use mathlib.Core.Bool.{Bool, not, _&&_, _||_}
 use mathlib.Core.List.{List, [], _∷_, _++_}
 use Prim.Native.Nat.{ℕ, _+_}
@@ -11,6 +11,13 @@ use Rattle.block.specs.declared.Part.the-variants.{Sgl0, DirectEvents, EPad}
 use Rattle.block.specs.Tables.{among}
 use Rattle.block.specs.Layout.{marker, bit}
 use Rattle.block.specs.Parts.{hidden}
+use Rattle.wording.specs.declared.Command.{Command}
+use Rattle.wording.specs.declared.Command.the-variants.{Relay, Iel, HeadMask, Target, Limit, Mode, Stepping, Multiplexers, DirectionWindow, EnergyWindow}
+use Rattle.wording.specs.declared.Wrote.{Wrote}
+use Rattle.wording.specs.declared.Wrote.the-variants.{Words, Refused}
+use Rattle.wording.specs.declared.Meant.{Meant}
+use Rattle.wording.specs.declared.Meant.the-variants as meant
+use Rattle.wording.specs.Refusals.{numberOf}
 
 -- the first number whose condition holds, and 0 if none does
 abbrev pub firstIn : List (Bool × ℕ) → ℕ
@@ -65,3 +72,42 @@ ofIfft b n from most =
     )
     ∷ (leb (getD b 6 0) n, 22)
     ∷ []
+
+-- a setting of more bits than 01 reads
+abbrev pub wide : Command → Bool
+wide (Relay on off) = ltb 1 on || ltb 1 off
+wide (Iel clock enable) = ltb 1 clock || ltb 1 enable
+wide (HeadMask mask) = ltb 7 mask
+wide (Target target) = ltb 15 target
+wide (Limit limit) = ltb 15 limit
+wide (Mode low) = ltb 255 low
+wide (Stepping low) = ltb 255 low
+wide (Multiplexers byte bit) = ltb 255 byte || ltb 1 bit
+wide (DirectionWindow start stop) = ltb 31 start || ltb 31 stop
+wide (EnergyWindow start stop) = ltb 31 start || ltb 31 stop
+
+-- the words of a command: a single is one; a block its head, two data words and its end
+abbrev pub need : Command → ℕ
+need (Relay on off) = 1
+need (Iel clock enable) = 1
+need (HeadMask mask) = 1
+need (Target target) = 1
+need (Limit limit) = 1
+need (Mode low) = 1
+need (Stepping low) = 1
+need (Multiplexers byte bit) = 4
+need (DirectionWindow start stop) = 4
+need (EnergyWindow start stop) = 4
+
+-- of a command to be written: a setting too wide; too few words of room
+abbrev pub ofWrite : Command → List ℕ → List (Bool × ℕ)
+ofWrite c out = (wide c, 25) ∷ (ltb (length out) (need c), 26) ∷ []
+
+-- the number that the writer and the reader tell, and 0 if they refuse nothing
+abbrev pub writeNumber : Wrote → ℕ
+writeNumber (Words n) = 0
+writeNumber (Refused why) = numberOf why
+
+abbrev pub readNumber : Meant → ℕ
+readNumber (meant.Is c) = 0
+readNumber (meant.Refused why) = numberOf why

@@ -3,6 +3,7 @@
 use mathlib.Core.Path.{_≡_}
 use mathlib.Core.List.{List}
 use Prim.Native.Nat.{ℕ}
+use lib.ListN.{length}
 use contract.Lifetimes.{Lfts}
 use denote.Ref.{RefT, now}
 use denote.Triple.Clauses.{AtExit}
@@ -55,6 +56,16 @@ use Rattle.event.specs.Ifft.{eventOf, itemOf}
 use Rattle.event.proofs.direct_event.Reads as event-fn
 use Rattle.ifft.proofs.ifft_event.Reads as ifft-event-fn
 use Rattle.ifft.proofs.ifft_item.Reads as ifft-item-fn
+use Rattle.wording.specs.declared.Refusal.{Refusal as WordingRefusal}
+use Rattle.wording.specs.declared.Wrote.{Wrote}
+use Rattle.wording.specs.declared.Meant.{Meant}
+use Rattle.wording.specs.Refusals as wording
+use Rattle.wording.specs.Written.{wroteOf, writtenOf}
+use Rattle.wording.specs.Meaning.{readOf}
+use Rattle.wording.proofs.number.Reads as wording-number-fn
+use Rattle.word_writer.proofs.write.Reads as write-fn
+use Rattle.word_writer.proofs.write.Kinds as write-kinds
+use Rattle.word_reader.proofs.read.Reads as read-fn
 use Rattle.demands.specs.Outfit.{proved}
 
 -- The functions of the outfit `proved`. Its `frame` and `sent` no function answers alone: `build` and `filled` tie them (Demand1, `room`).
@@ -112,3 +123,14 @@ pub record OurBlocks : Type 0 where
   pub asks-wordNumber : (r : Refusal) → word-number-fn.Pre tt (r, tt)
   pub asks-frameNumber : (r : FrameRefusal) → frame-number-fn.Pre tt (r, tt)
   pub asks-blockNumber : (r : BlockRefusal) → block-number-fn.Pre tt (r, tt)
+
+-- The writer of a command's words, the reader, and the number that their refusals are told by. a is the command and the buffer; e what the call leaves of them.
+pub record OurWords : Type 0 where
+  pub write : (κs : Lfts 1) (a : Dens κs write-kinds.ps) (e : AtExit (endedOf 1 write-kinds.ps write-kinds.r) κs) (x : Wrote) → write-fn.Post κs a x e
+      → (x ≡ wroteOf (a .0) (length (now (a .1 .0)))) × (e .1 .0 .now ≡ writtenOf (a .0) (now (a .1 .0)))
+  pub read : (κs : Lfts 1) (ws : RefT (List ℕ)) (x : Meant) → read-fn.Post κs (ws, tt) x (ws, tt) → x ≡ readOf (now ws)
+  pub wordingNumber : (r : WordingRefusal) (n : ℕ) → wording-number-fn.Post tt (r, tt) n (r, tt) → n ≡ wording.numberOf r
+  -- they ask nothing
+  pub asks-write : (κs : Lfts 1) (a : Dens κs write-kinds.ps) → write-fn.Pre κs a
+  pub asks-read : (κs : Lfts 1) (ws : RefT (List ℕ)) → read-fn.Pre κs (ws, tt)
+  pub asks-wordingNumber : (r : WordingRefusal) → wording-number-fn.Pre tt (r, tt)

@@ -1,0 +1,3 @@
+-- Words at the front of a buffer, and single outcome.
+pub mod Front
+pub mod Single

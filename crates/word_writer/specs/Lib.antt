@@ -1,0 +1,2 @@
+-- What a command's words hold.
+pub mod Forms
