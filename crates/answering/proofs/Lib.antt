@@ -1,0 +1,3 @@
+-- Lines of words, and single outcome.
+pub mod Orders
+pub mod Single

@@ -1,0 +1,3 @@
+-- The answers to typed lines.
+pub mod Answers
+pub mod Vectors

@@ -1,0 +1,3 @@
+-- What a typed line asks for.
+pub mod Asks
+pub mod Vectors

@@ -1,0 +1,2 @@
+-- The names of the menu.
+pub mod Names

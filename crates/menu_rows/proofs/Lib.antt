@@ -1,0 +1,3 @@
+-- The rows of the menu, and single outcome.
+pub mod Laws
+pub mod Single

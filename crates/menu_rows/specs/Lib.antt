@@ -1,0 +1,2 @@
+-- The rows of the menu.
+pub mod Rows

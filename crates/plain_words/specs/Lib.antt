@@ -1,0 +1,2 @@
+-- Commands in plain words.
+pub mod Plain
