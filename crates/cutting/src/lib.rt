@@ -1,5 +1,5 @@
 // A stream cut into lines, in whatever pieces it comes. What is held of a line is in a buffer that the caller lends.
-// For the consoles' input. Nothing is written behind the buffer.
+// For lines that are typed. Nothing is written behind the buffer.
 ghost use mathlib.Core.Path.{_≡_};
 ghost use lib.ListN.{drop};
 ghost use Rattle.cutting.specs.Cut.{start, grown, kept, saidOf, lastOf, cut, stepOf};

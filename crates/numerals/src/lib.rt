@@ -1,5 +1,5 @@
 // Numbers in text: in decimal into a page that the caller lends, and out of a text, in decimal and in hex.
-// For the consoles' commands and answers. Nothing is written behind the page.
+// For lines that are typed, and the answers to them. Nothing is written behind the page.
 ghost use mathlib.Core.Path.{_≡_};
 ghost use Prim.Native.Nat.{_+_, _*_, _%_, _≤_, _<_, min};
 ghost use lib.ListN.{length, drop};
