@@ -8,12 +8,16 @@ use borrow.Fn.Kinds.{Dens, endedOf}
 use Rattle.base.proofs.Single.{same}
 use Rattle.crc.specs.declared.Judged.{Judged}
 use Rattle.crc.proofs.judge_of.Reads as judge-of
+use Rattle.crc.proofs.shift_step.Reads as shift-step
 use Rattle.crc.proofs.next.Reads as next
 use Rattle.crc.proofs.check_of.Kinds.{ps, r}
 use Rattle.crc.proofs.check_of.Reads as check-of
 
 pub judge-of-one : (c r : ℕ) (j k : Judged) → judge-of.Post tt (c, (r, tt)) j (c, (r, tt)) → judge-of.Post tt (c, (r, tt)) k (c, (r, tt)) → j ≡ k
 judge-of-one c r j k m n = same m n
+
+pub shift-step-one : (b x y : ℕ) → shift-step.Post tt (b, tt) x (b, tt) → shift-step.Post tt (b, tt) y (b, tt) → x ≡ y
+shift-step-one b x y m n = same m n
 
 pub next-one : (c b x y : ℕ) → next.Post tt (c, (b, tt)) x (c, (b, tt)) → next.Post tt (c, (b, tt)) y (c, (b, tt)) → x ≡ y
 next-one c b x y m n = same m n

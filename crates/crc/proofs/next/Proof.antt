@@ -1,36 +1,37 @@
--- `crc::next` meets its contract: the table's rule is one test over its 256 entries, which antt computes.
--- The table is read off the code (it is the fourth local), so that it stands in the source alone. Assumes nothing.
-use mathlib.Core.Path.{_≡_}
-use mathlib.Core.List.{List}
-use mathlib.Core.Bool.{Bool}
-use Prim.Native.Nat.{ℕ, _<_}
+-- `crc::next` meets its contract: after k turns of the loop, k shift steps.
+-- Assumes nothing.
+use mathlib.Core.Path.{_≡_, refl}
+use Prim.Native.Nat.{_-_, _≤_}
 use native.Mathlib.Omega.{arith}
-use lib.Bits.{bitXor, xor-lt}
-use lib.Dec.{T, eqb, eqb→eq}
-use lib.ListN.{length, getD}
-use Rattle.base.proofs.Table.{every, at}
-use Rattle.crc.specs.Crc.{shift, shift8}
+use borrow.Author.Needs.{needs}
+use lib.Bits.{bitXor}
+use Rattle.crc.proofs.Steps.{shifts, one-more, eight}
 use Rattle.crc.proofs.next.Statement.{statement}
 use Rattle.crc.proofs.next.Tie as tie
-use Rattle.crc.proofs.next.Reads as reads
-use Rattle.crc.proofs.next.Lts as lts
 
-right : ℕ → ℕ → Bool
-unfolding shift
-right k x = eqb x (shift8 k)
+abbrev Inv-loop : tie.InvT-loop
+Inv-loop c b x₀ k₀ x k = (k ≤ 8) × (x ≡ shifts k (bitXor c b))
 
-rule : (table : List ℕ) (x : ℕ) → T (every right 0 table) → x < length table → getD table x 0 ≡ shift8 x
-unfolding right
-rule table x t h = eqb→eq (getD table x 0) (shift8 x) (at right table t x h)
+abbrev μ-loop : tie.MeasureT-loop
+μ-loop c b x₀ k₀ x k = 8 - k
 
-array-read-result : tie.Need-array-read-result
-array-read-result c = xor-lt 8 (c .args .c) (c .args .b) (c .fits .c .fits) (c .fits .b .fits)
+loop-holds : tie.Need-loop-holds Inv-loop μ-loop
+unfolding shifts
+loop-holds c = (omega arith, refl)
 
-returns : tie.Need-returns
-unfolding right
+loop-again : tie.Need-loop-again Inv-loop μ-loop
+loop-again c =
+    let l = c .before .before in
+    let a = l .before .args in
+    (omega arith, cc (c .shift-step .ensures, one-more (l .loop .k) (bitXor (a .c) (a .b))))
+
+returns : tie.Need-returns Inv-loop μ-loop
 returns c =
-    let table = (lts.m7 reads.Pre reads.Post (c .args) (c .blocks)) .1 .1 .1 .1 .0 in
-    rule table (bitXor (c .args .c) (c .args .b)) tt (array-read-result c)
+    let a = c .before .before .args in
+    let e : c .before .loop .k ≡ 8 = omega arith in
+    cc (e, eight (bitXor (a .c) (a .b)))
 
 pub next-spec : {M : Type 1} → statement M
-next-spec = tie.close (tie.spec (λ c. omega (arith, array-read-result c)) array-read-result returns)
+next-spec =
+    tie.close
+    (tie.spec Inv-loop μ-loop loop-holds (λ c κs. search needs) (λ c. omega arith) (λ c. omega arith) loop-again returns)
