@@ -1,5 +1,5 @@
 //! The check of a block command: the CRC of width 8, polynomial 07h, start 0, with no reflection and no final change.
-//! Worked from a table of 256 entries, as the scope paper says.
+//! Worked from a table of 256 entries, which is the quick way.
 
 static TABLE: [u8; 256] = table();
 
