@@ -1,7 +1,6 @@
 -- Where the steps lead (specs/Laws.antt): eight steps from the check and the byte put together.
 -- Assumes nothing.
-use mathlib.Core.Path.{_≡_, refl}
-use mathlib.Core.List.{List, _++_, append-assoc, append-nil}
+use mathlib.Core.List.{_++_, append-assoc, append-nil}
 use lib.Bits.{bitXor}
 use Rattle.crc.proofs.Steps.{shifts}
 use Rattle.shift_lines.specs.Lines.{startLine, stepText, stepLines, byteLines}

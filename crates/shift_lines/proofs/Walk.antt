@@ -1,13 +1,13 @@
 -- The lines of a byte, put one after the other: what is still to come, put where the loop of `byte_lines` stands, makes them all.
 -- Assumes nothing.
 use mathlib.Core.Path.{_≡_, refl, sym, ap, _∙_}
-use mathlib.Core.List.{List, [], _++_, append-nil}
+use mathlib.Core.List.{List, _++_, append-nil}
 use Prim.Native.Nat.{ℕ, zero, suc, _+_, _*_, _-_, _≤_}
 use native.Mathlib.Nat.{zero-add, le-of-eq}
 use native.Mathlib.Omega.{arith}
 use lib.Bits.{bitXor}
 use lib.Dec.{ltb}
-use lib.ListN.{length, drop, length-append, length-take, length-drop, drop-of-length-le}
+use lib.ListN.{length, length-append, length-take, length-drop, drop-of-length-le}
 use Rattle.base.proofs.Cases.{split}
 use Rattle.crc.specs.Crc.{shift}
 use Rattle.text.specs.Page.{put, Puts}

@@ -1,7 +1,7 @@
 -- `shift_lines::byte_lines` meets its contract. The loop's invariant: the lines of the steps to come, put at the place, make the lines of the byte.
 -- Assumes nothing.
-use Prim.Native.Nat.{_+_, _*_, _-_, _≤_}
-use mathlib.Core.Path.{_≡_, sym, _∙_}
+use Prim.Native.Nat.{_*_, _-_, _≤_}
+use mathlib.Core.Path.{_≡_, _∙_}
 use native.Mathlib.Omega.{arith}
 use borrow.Author.Needs.{needs}
 use lib.ListN.{length}
@@ -32,8 +32,9 @@ loop-again c =
     let said = step .before in
     let l = said .before .before .loop in
     let h = rw (said .step-text .ensures, step .shift-step .ensures) at (c .put-line2 .ensures) in
+    let n = step-length (l .k) (l .x) in
     let e = again (l .k) (l .x) (omega arith) (omega arith) h ∙ l .inv .4 in
-    (omega arith, omega arith, omega (arith, h .place, step-length (l .k) (l .x)), kept h (omega (arith, step-length (l .k) (l .x))) ∙ l .inv .3, rw (step .shift-step .ensures) e)
+    (omega arith, omega arith, omega (arith, h .place, n), kept h (omega (arith, n)) ∙ l .inv .3, rw (step .shift-step .ensures) e)
 
 returns : tie.Need-returns Inv-loop μ-loop
 unfolding stepLines
