@@ -1,4 +1,4 @@
-//! The rig: command words in, frames out. From the scope paper's "Command words", "Spins and power" and "The 40-byte frame".
+//! The rig: command words in, frames out. From the scope paper's "Command words", "Spins and power" and "The 40-byte frame", and 02 (ii), the register.
 //! State is changed in place.
 
 use crate::crc::check_of;
@@ -65,6 +65,14 @@ impl Window {
     }
 }
 
+/// Multiplexer word and windows: what was ordered, or what the sensor's register has.
+#[derive(Clone, Copy, Default)]
+struct Sensor {
+    multiplexers: (u8, bool),
+    direction: Window,
+    energy: Window,
+}
+
 /// A block that waits: its head's high byte, how many data words it is to have, how many came, and their low bytes.
 struct Pending {
     head: u8,
@@ -79,9 +87,9 @@ pub struct Rig {
     head_mask: u8,
     iel_clock: bool,
     iel_enable: bool,
-    multiplexers: (u8, bool),
-    direction: Window,
-    energy: Window,
+    ordered: Sensor,
+    /// A spin copies what was ordered, and frames show it.
+    register: Sensor,
     pending: Option<Pending>,
     last_check: u8,
     pub error: u8,
@@ -107,9 +115,8 @@ impl Rig {
             head_mask: 7,
             iel_clock: false,
             iel_enable: false,
-            multiplexers: (0, false),
-            direction: Window::default(),
-            energy: Window::default(),
+            ordered: Sensor::default(),
+            register: Sensor::default(),
             pending: None,
             last_check: 0,
             error: 0,
@@ -142,6 +149,7 @@ impl Rig {
                 s.level -= 1;
             }
         }
+        self.register = self.ordered;
         self.long_counter = self.long_counter.wrapping_add(1);
     }
 
@@ -271,9 +279,9 @@ impl Rig {
             return Err(Refusal::WrongCount);
         };
         match code {
-            0x20 => self.multiplexers = (first, second & 0x01 != 0),
-            0x23 => self.direction = Window::of(first, second),
-            _ => self.energy = Window::of(first, second),
+            0x20 => self.ordered.multiplexers = (first, second & 0x01 != 0),
+            0x23 => self.ordered.direction = Window::of(first, second),
+            _ => self.ordered.energy = Window::of(first, second),
         }
         Ok(())
     }
@@ -289,15 +297,16 @@ impl Rig {
             _ => {}
         }
         let s = &self.supply;
+        let sensor = &self.register;
         *f = [0; 40];
         f[0] = i;
         f[1] = u8::from(self.parallel) << 6;
         f[2] = u8::from(s.relay) << 6;
-        f[6] = self.multiplexers.0 & 0x49;
+        f[6] = sensor.multiplexers.0 & 0x49;
         f[7] = self.error << 4;
-        f[8] = self.direction.stop >> 1;
-        f[9] = self.direction.stop << 7 | self.direction.start << 2 | self.energy.stop >> 3;
-        f[10] = self.energy.stop << 5 | self.energy.start;
+        f[8] = sensor.direction.stop >> 1;
+        f[9] = sensor.direction.stop << 7 | sensor.direction.start << 2 | sensor.energy.stop >> 3;
+        f[10] = sensor.energy.stop << 5 | sensor.energy.start;
         f[16] = self.last_invalid;
         f[19] = u8::from(self.iel_enable) << 7;
         f[20] = self.long_counter.wrapping_sub(1) as u8 & 0x3F;

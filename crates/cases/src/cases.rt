@@ -1,5 +1,5 @@
 // 01's cases a to l, run by the compiled code.
-// Keeps 01 "Bench cases"; crate `demands` proves them of the definitions.
+// Keeps 01 "Bench cases", with 02 (ii)'s spin before the frame in a and c; crate `demands` proves them of the definitions.
 use bench::Bench;
 use event::Itemed;
 
@@ -69,7 +69,7 @@ fn show_frame_byte(bench: Bench, k: usize) {
 }
 
 fn energy_window() {
-    let a = block(b'a', 0x6402, 0xA401, 0xA400, 0xE415);
+    let a = steps::spins(block(b'a', 0x6402, 0xA401, 0xA400, 0xE415), 1);
     show_frame_byte(a, 10);
 }
 
@@ -79,7 +79,7 @@ fn wrong_check() {
 }
 
 fn direction_window() {
-    let c = block(b'c', 0x6302, 0xA303, 0xA313, 0xE346);
+    let c = steps::spins(block(b'c', 0x6302, 0xA303, 0xA313, 0xE346), 1);
     show_frame_byte(c, 8);
     show_frame_byte(c, 9);
 }

@@ -2,14 +2,20 @@
 -- Assumes nothing.
 use mathlib.Core.Path.{_≡_, refl, _∙_, ap, subst}
 use mathlib.Core.List.{List, [], _∷_, _++_}
-use Prim.Native.Nat.{ℕ}
+use Prim.Native.Nat.{ℕ, _%_}
 use native.Mathlib.Omega.{arith}
 use lib.ListN.{getD, replicate}
+use Rattle.crc.specs.Crc.{shift, crcFrom, crcOf}
+use Rattle.judge.specs.declared.Sensor.{Sensor}
 use Rattle.judge.specs.declared.Verdict.{Verdict}
 use Rattle.judge.specs.declared.Refusal.the-variants.{StrayWord}
+use Rattle.judge.specs.Commands.{countedOf, blockOf}
+use Rattle.judge.specs.Records.{withSettings, withSensor, withDirection}
 use Rattle.frame.specs.declared.Item.the-variants.{Bias}
+use Rattle.frame.specs.declared.Reading.{Reading}
+use Rattle.frame.specs.declared.Reading.the-variants.{Nothing, Value}
 use Rattle.frame.specs.Write.{quarterOf, groundAt, muxOf, frameOf}
-use Rattle.frame.specs.Read.{allAre, arrivedOf, isPlain}
+use Rattle.frame.specs.Read.{allAre, arrivedOf, isPlain, readOf}
 use Rattle.desk.specs.declared.Answer.{Answer}
 use Rattle.desk.specs.declared.Answer.the-variants as desk
 use Rattle.desk.specs.declared.Received.{Received}
@@ -22,11 +28,13 @@ use Rattle.rig.specs.declared.Rig.{Rig}
 use Rattle.rig.specs.declared.Answer.the-variants.{Accepted, Refused}
 use Rattle.rig.specs.declared.Reply.the-variants.{Plain}
 use Rattle.rig.specs.declared.Taken.{Taken}
-use Rattle.rig.specs.Words.{kindOf, refusedOf, settledOf, freshOf, takeOf}
-use Rattle.rig.specs.Start.{startRig}
+use Rattle.rig.specs.Records.{withCore}
+use Rattle.rig.specs.Words.{kindOf, refusedOf, settledOf, headOf, freshOf, verdictOf, closedOf, droppedOf, pendingOf, takeOf}
+use Rattle.rig.specs.Start.{clearSensor, startCore, startRig}
 use Rattle.power.specs.Power.{setOf}
 use Rattle.laws.specs.Results.{outcome}
 use Rattle.laws.specs.Rows.{RowLaws}
+use Rattle.laws.specs.Ordered.{direction}
 use Rattle.laws.specs.Runs as ran
 use Rattle.demands.specs.Queue.{set, marked, Step, alone, built, came, idle, steps, Beat, build, hand, beats}
 use Rattle.demands.specs.AnyDesk.{IsWhole}
@@ -34,7 +42,7 @@ use Rattle.demands.specs.Demand1.{Demand1For}
 use Rattle.demands.specs.Demand2.{Demand2For}
 use Rattle.demands.specs.Demand3.{Demand3For}
 use Rattle.demands.specs.One.{rigOf}
-use Rattle.demands.specs.Frauds.{Refusing, RefusesEverything, AnswersAlike, idler, blanker, hoarder, pretender, flatterer, uncounted, snob, Caught}
+use Rattle.demands.specs.Frauds.{Refusing, RefusesEverything, AnswersAlike, idler, blanker, hoarder, pretender, flatterer, uncounted, snob, hasty, relayed, Caught}
 use Rattle.demands.proofs.One.{one-desk}
 
 -- a head mask is accepted, and a stray data word refused
@@ -54,12 +62,37 @@ not-alike take all d =
     let z : _≡_ {A = ℕ} 0 1 = cc (all startRig startRig 0x2600 0x8000, accepts take (d .rows), refuses take (d .rows)) in
     omega arith
 
+abbrev sends : ℕ → ran.Happening
+sends w = ran.word (w % 0x10000) (omega arith)
+
+-- the value that a frame is read as
+abbrev readNumber : Reading → ℕ
+readNumber (Value v) = v
+readNumber Nothing = 0
+
 -- one refusal, and the made-up count is 0
 not-uncounted : Demand2For (rigOf uncounted) → ⊥
 unfolding ran.rigAfter ran.ledger takeOf freshOf settledOf refusedOf kindOf
 not-uncounted d =
     let e : _≡_ {A = ℕ} 0 1 = d .runs .count (ran.word 0x8000 (omega arith) ∷ []) in
     omega arith
+
+-- the block of a direction window from 1 to 1, and no spin: the next frame has it
+abbrev ordered : List ran.Happening
+ordered = sends 0x6302 ∷ sends 0xA301 ∷ sends 0xA301 ∷ sends 0xE312 ∷ []
+
+not-hasty : Demand2For hasty → ⊥
+unfolding ran.rigAfter takeOf pendingOf droppedOf closedOf verdictOf freshOf headOf settledOf refusedOf kindOf blockOf countedOf crcOf crcFrom shift frameOf muxOf quarterOf groundAt isPlain readOf
+not-hasty d =
+    let e : _≡_ {A = ℕ} 1 0 = ap readNumber (d .when .before [] ordered direction (tt, (tt, (tt, (tt, tt)))) .0) in
+    omega arith
+
+-- a window ordered with the relay off, and a spin
+abbrev asked : Rig
+asked = withCore startRig (withSettings startCore (withSensor (startCore .settings) (withDirection clearSensor (record { start = 1; stop = 1 }))))
+
+not-relayed : Demand2For relayed → ⊥
+not-relayed d = let e : _≡_ {A = ℕ} 0 1 = ap (λ (x : Sensor). x .direction .start) (d .register .copied asked .0) in omega arith
 
 abbrev valueOf : Shown → ℕ
 valueOf Unknown = 0
@@ -149,6 +182,8 @@ caught =
       refuses = not-all;
       alike = not-alike;
       counts = not-uncounted;
+      soon = not-hasty;
+      late = not-relayed;
       nothing = not-idler;
       blanks = not-blanker;
       holds = not-hoarder;

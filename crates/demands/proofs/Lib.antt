@@ -7,6 +7,7 @@ pub mod AtOnce
 pub mod Queue
 pub mod AnyDesk
 pub mod Held
+pub mod Register
 pub mod Numbers
 pub mod Orders
 pub mod Menu

@@ -30,6 +30,7 @@ use Rattle.cell.specs.declared.Shown.{Shown}
 use Rattle.cell.specs.declared.Shown.the-variants.{Known}
 use Rattle.desk.specs.declared.Received.{Received}
 use Rattle.desk.specs.Laws.{answered}
+use Rattle.judge.specs.declared.Sensor.{Sensor}
 use Rattle.judge.specs.declared.Settings.{Settings}
 use Rattle.judge.specs.declared.Core.{Core}
 use Rattle.rig.specs.declared.Faults.{Faults}
@@ -143,27 +144,27 @@ level-is s n m =
     (λ r. let e : stepped s ≡ s = rw r refl in m .still (inl r) ∙ sym e)
 
 -- a rig is its parts
-made : Supply → Settings → Faults → Pending → ℕ → Panel → Sending → Spins → Rig
-made a b c d e f g h = record { core = record { stop = a; settings = b }; faults = c; pending = d; check = e; panel = f; sending = g; edbs = h }
+made : Supply → Settings → Sensor → Faults → Pending → ℕ → Panel → Sending → Spins → Rig
+made a b x c d e f g h = record { core = record { stop = a; settings = b }; register = x; faults = c; pending = d; check = e; panel = f; sending = g; edbs = h }
 
-same-made : {a i : Supply} {b j : Settings} {c k : Faults} {d l : Pending} {e m : ℕ} {f n : Panel} {g o : Sending} {h p : Spins}
-    → a ≡ i → b ≡ j → c ≡ k → d ≡ l → e ≡ m → f ≡ n → g ≡ o → h ≡ p → made a b c d e f g h ≡ made i j k l m n o p
-same-made q r s t u v w x = cc
+same-made : {a i : Supply} {b j : Settings} {x y : Sensor} {c k : Faults} {d l : Pending} {e m : ℕ} {f n : Panel} {g o : Sending} {h p : Spins}
+    → a ≡ i → b ≡ j → x ≡ y → c ≡ k → d ≡ l → e ≡ m → f ≡ n → g ≡ o → h ≡ p → made a b x c d e f g h ≡ made i j y k l m n o p
+same-made q r z s t u v w x = cc
 
-parts-are : (r q : Rig) → q .core .stop ≡ r .core .stop → q .core .settings ≡ r .core .settings → q .faults ≡ r .faults → q .pending ≡ r .pending
+parts-are : (r q : Rig) → q .core .stop ≡ r .core .stop → q .core .settings ≡ r .core .settings → q .register ≡ r .register → q .faults ≡ r .faults → q .pending ≡ r .pending
     → q .check ≡ r .check → q .panel ≡ r .panel → q .sending ≡ r .sending → q .edbs ≡ r .edbs → q ≡ r
 unfolding made
-parts-are r q a b c d e f g h = same-made a b c d e f g h
+parts-are r q a b x c d e f g h = same-made a b x c d e f g h
 
 spin-is : (r q : Rig) → Spun r q → q ≡ spunOf r
 spin-is r q m =
-    parts-are (spunOf r) q (level-is (r .core .stop) (q .core .stop) (m .stop)) (m .settings) (m .faults) (m .pending) (m .check) (m .panel) (m .sending) (m .edbs)
+    parts-are (spunOf r) q (level-is (r .core .stop) (q .core .stop) (m .stop)) (m .settings) (m .register) (m .faults) (m .pending) (m .check) (m .panel) (m .sending) (m .edbs)
 
 set-is : (r : Rig) (s : PanelSetting) (q : Rig) → SetMoves r s q → q ≡ setOf r s
 unfolding setOf
 set-is r s q m =
     let k = m .kept in
-    parts-are (setOf r s) q (ap (λ (c : Core). c .stop) (k .core)) (ap (λ (c : Core). c .settings) (k .core)) (k .faults) (k .pending) (k .check)
+    parts-are (setOf r s) q (ap (λ (c : Core). c .stop) (k .core)) (ap (λ (c : Core). c .settings) (k .core)) (k .register) (k .faults) (k .pending) (k .check)
     (m .panel ∙ sym (panel-is (r .panel) s)) (m .sending) (k .edbs)
 
 sends : ℕ → ℕ → Sending
@@ -176,7 +177,7 @@ sent-is : (r q : Rig) → SentMoves r q → q ≡ sent r
 unfolding sends
 sent-is r q m =
     let k = m .kept in
-    parts-are (sent r) q (ap (λ (c : Core). c .stop) (k .core)) (ap (λ (c : Core). c .settings) (k .core)) (k .faults) (k .pending) (k .check)
+    parts-are (sent r) q (ap (λ (c : Core). c .stop) (k .core)) (ap (λ (c : Core). c .settings) (k .core)) (k .register) (k .faults) (k .pending) (k .check)
     (m .panel) (same-sends (m .next) (m .latch)) (k .edbs)
 
 pub one-rig : OneRig

@@ -1,4 +1,4 @@
--- The bench cases a to l of 01, as one table.
+-- The bench cases a to l of 01, as one table; of 02 (ii) the spin before the frame in a and c.
 -- Assumes nothing.
 use mathlib.Core.Path.{_≡_}
 use mathlib.Core.Bool.{Bool, true, false}
@@ -20,7 +20,7 @@ use Rattle.volts.specs.declared.Sheet.{Sheet}
 use Rattle.volts.specs.Volts.{biasOf, Shows}
 use Rattle.event.specs.Ifft.{itemAt}
 use Rattle.laws.specs.Runs.{ours}
-use Rattle.demands.specs.Held.{Do, send, doing}
+use Rattle.demands.specs.Held.{Do, send, spin, doing}
 
 -- the rig after some steps (words, spins, settings) from the start
 abbrev pub afterSteps : List Do → Rig
@@ -62,15 +62,15 @@ blockC = send 0x6302 ∷ send 0xA303 ∷ send 0xA313 ∷ []
 -- the table
 abbrev pub cases : List Case
 cases =
-    -- a. 6402 A401 A400 E415: accepted; byte 10 is 01h
+    -- a. 6402 A401 A400 E415: accepted; after a spin byte 10 is 01h
     reply blockA 0xE415 (Plain Accepted) []
-    ∷ byte (blockA ++ (send 0xE415 ∷ [])) 10 0x01
+    ∷ byte (blockA ++ (send 0xE415 ∷ spin ∷ [])) 10 0x01
     -- b. the same ending E407: 0Bh, last check 15h
     ∷ reply blockA 0xE407 (Plain (Refused WrongCheck)) (0x0B ∷ [])
     ∷ check (blockA ++ (send 0xE407 ∷ [])) 0x15
-    -- c. 6302 A303 A313 E346: byte 8 is 09h, byte 9 8Ch
-    ∷ byte (blockC ++ (send 0xE346 ∷ [])) 8 0x09
-    ∷ byte (blockC ++ (send 0xE346 ∷ [])) 9 0x8C
+    -- c. 6302 A303 A313 E346: after a spin byte 8 is 09h, byte 9 8Ch
+    ∷ byte (blockC ++ (send 0xE346 ∷ spin ∷ [])) 8 0x09
+    ∷ byte (blockC ++ (send 0xE346 ∷ spin ∷ [])) 9 0x8C
     -- d. 0822: 0Bh
     ∷ reply [] 0x0822 (Plain (Refused RelayBits)) (0x0B ∷ [])
     -- e. 2805 at start: 04h

@@ -22,6 +22,7 @@ use Rattle.laws.specs.Rows.{RowLaws}
 use Rattle.laws.specs.Blocks.{BlockLaws}
 use Rattle.laws.specs.Parts.{Parts}
 use Rattle.laws.specs.Runs.{Happening, rigReached, RunLaws}
+use Rattle.laws.specs.Register.{RegisterLaws}
 use Rattle.block.specs.declared.Kind.{Kind}
 use Rattle.block.specs.declared.Part.{Part}
 use Rattle.block.specs.Kinds.{lengthOf}
@@ -36,6 +37,7 @@ use Rattle.event.specs.Ifft.{itemAt}
 use Rattle.wording.specs.Laws.{Sends, WordingLaws}
 use Rattle.demands.specs.Outfit.{Outfit}
 use Rattle.demands.specs.Held.{HeldTable, Settles}
+use Rattle.demands.specs.Register.{ShownWhen}
 use Rattle.demands.specs.AnyDesk.{SlotLaws}
 
 -- demand 2, of any rig and desk
@@ -61,10 +63,13 @@ pub record Demand2For (o : Outfit) : Type 0 where
   pub runs : RunLaws (o .rig)
   -- a frame shows what the rig holds as it is built; a spread number is latched at its first frame and written from the latch
   pub frame : (r : Rig) → o .frame r ≡ frameOf (heldOf r) (r .sending .next) (latchOf (heldOf r) (r .sending .next) (r .sending .latch))
-  -- accepted settings show in the next frame that carries them: of every rig that a run has reached, each plain item that the frame carries is read
-  -- back as it is held
+  -- of every rig that a run has reached, each plain item that its next frame carries is read back as it is held
   pub shown : (es : List Happening) (k : ℕ) → isPlain k ≡ true → carries k (rigReached (o .rig) es .sending .next) ≡ true
       → readOf (o .frame (rigReached (o .rig) es)) k ≡ Value (heldAt (heldOf (rigReached (o .rig) es)) k)
+  -- accepted settings show in the next frame that carries them, but for windows and multiplexers: these go into the sensor's register at a spin, and frames
+  -- show the register
+  pub register : RegisterLaws (o .rig)
+  pub when : ShownWhen o
   -- what is written is what is read, item by item, and nothing else is told; the bits that are read, and those that are not
   pub layout : Laws
   -- what each item is held as, and where a frame has it, by example, so that no two can be swapped

@@ -1,4 +1,4 @@
--- The five frauds of 01 ("How tight each promise is") and a sixth, each written as a rig or a desk, and which demand catches it.
+-- The five frauds of 01 ("How tight each promise is") and three more, each written as a rig or a desk, and which demand catches it.
 -- Assumes nothing.
 use mathlib.Core.Path.{_≡_}
 use mathlib.Core.Bool.{Bool, true, false}
@@ -26,13 +26,17 @@ use Rattle.rig.specs.declared.Answer.the-variants as answer
 use Rattle.rig.specs.declared.Reply.{Reply}
 use Rattle.rig.specs.declared.Reply.the-variants.{Plain, Swallowed, Dropped}
 use Rattle.rig.specs.declared.Taken.{Taken}
-use Rattle.rig.specs.Records.{withFaults}
+use Rattle.rig.specs.Records.{withRegister, withFaults}
 use Rattle.rig.specs.Words.{takeOf}
+use Rattle.rig.specs.Start.{startRig}
+use Rattle.power.specs.Power.{spunOf, setOf, cutOf}
+use Rattle.sending.specs.Sending.{sent, filledOf, nextFrame}
+use Rattle.laws.specs.Runs.{ours}
 use Rattle.demands.specs.Outfit.{Outfit}
 use Rattle.demands.specs.Demand1.{Demand1For}
 use Rattle.demands.specs.Demand2.{Demand2For}
 use Rattle.demands.specs.Demand3.{Demand3For}
-use Rattle.demands.specs.One.{deskOf, rigOf}
+use Rattle.demands.specs.One.{deskOf, machineOf, rigOf}
 
 -- our desk's look, for the frauds that cheat elsewhere
 abbrev pub ours-look : Desk → Item → Shown
@@ -116,12 +120,28 @@ snubs d f = pick (eqb (length f) 40) (pick (eqb (getD f 3 0) 0) (slotOf d f) (an
 abbrev pub snob : Outfit
 snob = deskOf freshDesk (λ d f. lied (snubs d f)) missedOf ours-look
 
+-- 7. a rig that shows a window too soon: its frames have what was ordered, not the register
+abbrev pub tooSoon : Rig → Rig
+tooSoon r = withRegister r (r .core .settings .sensor)
+
+abbrev pub hasty : Outfit
+hasty = machineOf ours (λ r. nextFrame (tooSoon r)) (λ r b at. filledOf (tooSoon r) b at)
+
+-- 8. a rig whose spin copies what was ordered only while the relay is on
+abbrev pub copiesIfOn : Rig → Rig
+copiesIfOn r = withRegister (spunOf r) (pick (r .core .stop .relay) (r .core .settings .sensor) (r .register))
+
+abbrev pub relayed : Outfit
+relayed = machineOf (record { start = startRig; take = takeOf; spin = copiesIfOn; set = setOf; cut = cutOf; sent = sent }) nextFrame filledOf
+
 -- which demand catches each
 pub record Caught : Type 0 where
   -- demand 2
   pub refuses : (take : Rig → ℕ → Taken) → RefusesEverything take → Demand2For (rigOf take) → ⊥
   pub alike : (take : Rig → ℕ → Taken) → AnswersAlike take → Demand2For (rigOf take) → ⊥
   pub counts : Demand2For (rigOf uncounted) → ⊥
+  pub soon : Demand2For hasty → ⊥
+  pub late : Demand2For relayed → ⊥
   -- demand 3: the 35 slots
   pub nothing : Demand3For idler → ⊥
   -- demand 3: the latest is shown

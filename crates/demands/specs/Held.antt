@@ -1,9 +1,9 @@
 -- What the rig holds of each item and where a frame has it, as a table: from the start, these steps give these items these values, every item not named
 -- is as at the start, and the frames built then have these bytes.
--- Keeps 01 "Command words", "Spins and power" and the items of "The 40-byte frame". Assumes nothing.
+-- Keeps 01 "Command words", "Spins and power" and the items of "The 40-byte frame"; 02 (ii), the register. Assumes nothing.
 use mathlib.Core.Path.{_≡_}
 use mathlib.Core.Bool.{Bool, true, false, not, _&&_, _||_}
-use mathlib.Core.List.{List, [], _∷_}
+use mathlib.Core.List.{List, [], _∷_, _++_}
 use Prim.Native.Nat.{ℕ, zero, suc}
 use lib.Dec.{eqb}
 use lib.ListN.{getD, replicate}
@@ -38,6 +38,20 @@ pub record Row : Type 0 where
 abbrev pub row : List Do → List (Item × ℕ) → List (ℕ × (ℕ × ℕ)) → Row
 row ds ms bs = record { steps = ds; moved = ms; bytes = bs }
 
+-- a direction window, and two energy windows
+abbrev pub directionBlock : List Do
+directionBlock = send 0x6302 ∷ send 0xA31E ∷ send 0xA315 ∷ send 0xE3EA ∷ []
+
+abbrev pub energyBlock : List Do
+energyBlock = send 0x6402 ∷ send 0xA413 ∷ send 0xA41D ∷ send 0xE43B ∷ []
+
+abbrev pub otherEnergyBlock : List Do
+otherEnergyBlock = send 0x6402 ∷ send 0xA401 ∷ send 0xA400 ∷ send 0xE415 ∷ []
+
+-- what one spin moves by itself
+abbrev pub oneSpin : List (Item × ℕ)
+oneSpin = (LongCounter, 1) ∷ (ReducedCounter, 0) ∷ []
+
 abbrev pub table : List Row
 table =
     -- singles: serial/parallel, relay, stepping, limit, IEL clock, IEL enable, head mask
@@ -48,12 +62,15 @@ table =
     ∷ row (send 0x0C01 ∷ []) ((IelClock, 1) ∷ []) ((12, (39, 0x80)) ∷ [])
     ∷ row (send 0x0C02 ∷ []) ((IelEnable, 1) ∷ []) ((0, (19, 0x80)) ∷ [])
     ∷ row (send 0x2605 ∷ []) ((HeadMask, 5) ∷ []) ((31, (39, 0x50)) ∷ [])
-    -- blocks: each multiplexer alone, the direction and the energy window; the last check moves as well
-    ∷ row (send 0x6002 ∷ send 0xA001 ∷ send 0xA000 ∷ send 0xE015 ∷ []) ((Multiplexer1, 1) ∷ (LastCheck, 0x15) ∷ []) ((0, (6, 0x01)) ∷ (21, (39, 0x15)) ∷ [])
-    ∷ row (send 0x6002 ∷ send 0xA008 ∷ send 0xA000 ∷ send 0xE0A8 ∷ []) ((Multiplexer2, 1) ∷ (LastCheck, 0xA8) ∷ []) ((0, (6, 0x08)) ∷ (21, (39, 0xA8)) ∷ [])
-    ∷ row (send 0x6002 ∷ send 0xA040 ∷ send 0xA000 ∷ send 0xE05B ∷ []) ((Multiplexer3, 1) ∷ (LastCheck, 0x5B) ∷ []) ((0, (6, 0x40)) ∷ (21, (39, 0x5B)) ∷ [])
-    ∷ row (send 0x6302 ∷ send 0xA31E ∷ send 0xA315 ∷ send 0xE3EA ∷ []) ((DirectionStart, 0x1E) ∷ (DirectionStop, 0x15) ∷ (LastCheck, 0xEA) ∷ []) ((0, (8, 0x0A)) ∷ (0, (9, 0xF8)) ∷ [])
-    ∷ row (send 0x6402 ∷ send 0xA413 ∷ send 0xA41D ∷ send 0xE43B ∷ []) ((EnergyStart, 0x13) ∷ (EnergyStop, 0x1D) ∷ (LastCheck, 0x3B) ∷ []) ((0, (9, 0x03)) ∷ (0, (10, 0xB3)) ∷ [])
+    -- blocks, each with the spin that takes it to the register: each multiplexer alone, the direction and the energy window; the last check moves as well
+    ∷ row (send 0x6002 ∷ send 0xA001 ∷ send 0xA000 ∷ send 0xE015 ∷ spin ∷ []) ((Multiplexer1, 1) ∷ (LastCheck, 0x15) ∷ oneSpin) ((0, (6, 0x01)) ∷ (21, (39, 0x15)) ∷ [])
+    ∷ row (send 0x6002 ∷ send 0xA008 ∷ send 0xA000 ∷ send 0xE0A8 ∷ spin ∷ []) ((Multiplexer2, 1) ∷ (LastCheck, 0xA8) ∷ oneSpin) ((0, (6, 0x08)) ∷ (21, (39, 0xA8)) ∷ [])
+    ∷ row (send 0x6002 ∷ send 0xA040 ∷ send 0xA000 ∷ send 0xE05B ∷ spin ∷ []) ((Multiplexer3, 1) ∷ (LastCheck, 0x5B) ∷ oneSpin) ((0, (6, 0x40)) ∷ (21, (39, 0x5B)) ∷ [])
+    ∷ row (directionBlock ++ (spin ∷ [])) ((DirectionStart, 0x1E) ∷ (DirectionStop, 0x15) ∷ (LastCheck, 0xEA) ∷ oneSpin) ((0, (8, 0x0A)) ∷ (0, (9, 0xF8)) ∷ [])
+    ∷ row (energyBlock ++ (spin ∷ [])) ((EnergyStart, 0x13) ∷ (EnergyStop, 0x1D) ∷ (LastCheck, 0x3B) ∷ oneSpin) ((0, (9, 0x03)) ∷ (0, (10, 0xB3)) ∷ [])
+    -- with no spin nothing of them shows but the last check; of two orders before a spin the later one does, and an order after it not yet
+    ∷ row (directionBlock ++ energyBlock) ((LastCheck, 0x3B) ∷ []) ((0, (8, 0x00)) ∷ (0, (9, 0x00)) ∷ (0, (10, 0x00)) ∷ [])
+    ∷ row (otherEnergyBlock ++ energyBlock ++ (spin ∷ otherEnergyBlock)) ((EnergyStart, 0x13) ∷ (EnergyStop, 0x1D) ∷ (LastCheck, 0x15) ∷ oneSpin) ((0, (9, 0x03)) ∷ (0, (10, 0xB3)) ∷ [])
     -- refusals: 0822 255 times, both relay bits; a stray end word
     ∷ row (replicate 255 (send 0x0822)) ((ErrorCode, 0x0B) ∷ (LastInvalidCode, 0x08) ∷ (InvalidCount, 255) ∷ []) ((0, (7, 0xB0)) ∷ (0, (16, 0x08)) ∷ (22, (39, 255)) ∷ [])
     ∷ row (send 0xFE00 ∷ []) ((ErrorCode, 0x0B) ∷ (LastInvalidCode, 0xFE) ∷ (InvalidCount, 1) ∷ []) ((0, (16, 0xFE)) ∷ [])

@@ -5,6 +5,7 @@ pub mod Queue
 pub mod AtOnce
 pub mod AnyDesk
 pub mod Held
+pub mod Register
 pub mod Numbers
 pub mod Orders
 pub mod Demand1

@@ -15,7 +15,7 @@ use Rattle.rig.specs.Words.{takeOf}
 use Rattle.rig.specs.Start.{startRig}
 use Rattle.power.specs.Power.{spunOf, setOf, cutOf}
 use Rattle.sending.specs.Sending.{sent, builtOf, filledOf, nextFrame}
-use Rattle.laws.specs.Runs.{ours}
+use Rattle.laws.specs.Runs.{Machine, ours}
 use Rattle.demands.specs.History.{Slot, Told}
 use Rattle.demands.specs.Outfit.{Outfit, proved}
 use Rattle.demands.specs.Queue.{Step}
@@ -27,19 +27,23 @@ use Rattle.demands.specs.Demand3.{Demand3For, reached}
 abbrev pub deskOf : Desk → (Desk → List ℕ → Received) → (Desk → Desk) → (Desk → Item → Shown) → Outfit
 deskOf fresh slot missed look = record { rig = ours; frame = nextFrame; build = builtOf; filled = filledOf; fresh = fresh; slot = slot; missed = missed; look = look }
 
--- ours with any function that takes words
-abbrev pub rigOf : (Rig → ℕ → Taken) → Outfit
-rigOf take =
+-- our desk with the functions of any rig, and any frames
+abbrev pub machineOf : Machine → (Rig → List ℕ) → (Rig → List ℕ → ℕ → List ℕ) → Outfit
+machineOf m frame filled =
     record {
-      rig = record { start = startRig; take = take; spin = spunOf; set = setOf; cut = cutOf; sent = sent };
-      frame = nextFrame;
+      rig = m;
+      frame = frame;
       build = builtOf;
-      filled = filledOf;
+      filled = filled;
       fresh = proved .fresh;
       slot = proved .slot;
       missed = proved .missed;
       look = proved .look;
     }
+
+-- ours with any function that takes words
+abbrev pub rigOf : (Rig → ℕ → Taken) → Outfit
+rigOf take = machineOf (record { start = startRig; take = take; spin = spunOf; set = setOf; cut = cutOf; sent = sent }) nextFrame filledOf
 
 -- the history of slots leaves one thing to be shown
 abbrev pub OneTold : Type 0

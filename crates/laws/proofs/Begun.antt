@@ -15,12 +15,14 @@ use Rattle.rig.specs.declared.Kind.{Kind}
 use Rattle.rig.specs.declared.Kind.the-variants.{Single, Head, Data, End}
 use Rattle.rig.specs.declared.Pending.{Pending}
 use Rattle.rig.specs.declared.Rig.{Rig}
+use Rattle.rig.specs.declared.Reply.{Reply}
 use Rattle.rig.specs.declared.Taken.{Taken}
 use Rattle.rig.specs.Words.{highOf, lowOf, kindOf, keeps, closes, nothingPending, newBlock, oneMore, settledOf, refusedOf, headOf, freshOf, closedOf, afterDrop, dropBlock, droppedOf, pendingOf, takeOf}
 use Rattle.laws.specs.Results.{none}
+use Rattle.laws.specs.Ordered.{Order, orderCode, askedBy, isAccepted}
 use Rattle.laws.specs.Replies.{closing}
 use Rattle.laws.specs.Blocks.{holding}
-use Rattle.laws.specs.Runs.{Begun, nothing, block, begunBy, begunAfter, closedBy, checkOf, namedBy, heldAs}
+use Rattle.laws.specs.Runs.{Begun, nothing, block, begunBy, begunAfter, closedBy, checkOf, namedBy, heldAs, orderedBy}
 use Rattle.laws.proofs.WordKinds.{isHead, isData, head-test, data-test}
 use Rattle.laws.proofs.Words.{takes}
 use Rattle.laws.proofs.Blocks.{more}
@@ -126,3 +128,10 @@ check-of r (block h n s) e = ap (λ (p : Pending). p .check) e
 pub named-by : (r : Rig) (b : Begun) (w : ℕ) → r .pending ≡ heldAs b → pick (r .pending .waiting) (r .pending .head) (w / 256) ≡ namedBy b w
 named-by r nothing w e = rw e refl
 named-by r (block h n s) w e = rw e refl
+
+-- and what is then ordered
+pub ordered-by : (r : Rig) (b : Begun) (w : ℕ) (y : Reply) (p : Order) (old : ℕ × ℕ) → r .pending ≡ heldAs b
+    → pick (closing r w && (isAccepted y && eqb (r .pending .head % 64) (orderCode p))) (askedBy p (r .pending .first) (r .pending .second)) old
+    ≡ orderedBy p b w y old
+ordered-by r nothing w y p old e = rw e refl
+ordered-by r (block h n s) w y p old e = rw e refl

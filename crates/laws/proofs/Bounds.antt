@@ -66,7 +66,7 @@ Fits r = CoreFits (r .core) × PendingFits (r .pending)
 
 fresh-fits : {r : Rig} {high low : ℕ} {t : Taken} → Fresh r high low t → high < 0x100 → Fits r → Fits (t .rig)
 unfolding settledOf refusedOf
-fresh-fits (judged (Apply c) k) a h = (k (h .0), h .1)
+fresh-fits (judged (Apply c) k) a h = (k .0 (h .0), h .1)
 fresh-fits (judged (Deny why) k) a h = h
 fresh-fits {high = high} {low = low} (begun k) a h = (h .0, new-fits high low a k)
 
@@ -74,7 +74,7 @@ pub word-fits : {r : Rig} {high low : ℕ} {b : Bool} {t : Taken} → Case r hig
 unfolding settledOf refusedOf
 word-fits (idle e j f) a l h = fresh-fits f a h
 word-fits {r} {low = low} (kept e k) a l h = (h .0, more-fits (r .pending) low e k l (h .1))
-word-fits (closed e (Apply c) k) a l h = (k (h .0) (h .1 .first), nothing-fits)
+word-fits (closed e (Apply c) k) a l h = (k .0 (h .0, h .1 .first), nothing-fits)
 word-fits (closed e (Deny why) k) a l h = (h .0, nothing-fits)
 word-fits (swallowed e) a l h = (h .0, nothing-fits)
 word-fits (again e j f) a l h = fresh-fits f a (h .0, nothing-fits)

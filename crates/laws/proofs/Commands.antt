@@ -1,9 +1,14 @@
--- One walk of the command table: every verdict keeps the bounds of the core. The supply's part is the supply's own law.
+-- One walk of the command table: every verdict keeps the bounds of the core, and orders of the sensor what its block says. The supply's part is the supply's
+-- own law.
 -- Assumes nothing.
+use mathlib.Core.Path.{_≡_, refl, ap, sym}
 use mathlib.Core.Bool.{true, false}
 use Prim.Native.Nat.{ℕ, _%_, _<_, _≤_}
 use native.Mathlib.Omega.{arith}
 use lib.Dec.{eqb}
+use borrow.Author.Tests.{eqb-true, eqb-false}
+use Rattle.base.specs.Pick.{pick}
+use Rattle.base.proofs.Cases.{split}
 use Rattle.supply.specs.Rules.{relayOf, relayed, targeted, limited, switched}
 use Rattle.supply.specs.Laws.{Safe, Quiet, SafeChange, QuietChange}
 use Rattle.supply.specs.declared.Supply.{Supply}
@@ -19,81 +24,136 @@ use Rattle.judge.specs.declared.Core.{Core}
 use Rattle.judge.specs.declared.Verdict.{Verdict}
 use Rattle.judge.specs.declared.Verdict.the-variants.{Apply, Deny}
 use Rattle.judge.specs.Commands.{carried, ordered, relayCmd, modeCmd, singleOf, muxWord, windowOf, countedOf, blockOf}
-use Rattle.judge.specs.Records.{withStop, withSettings, withSensor, withMux, withDirection, withEnergy}
+use Rattle.judge.specs.Records.{withStop, withMux, withDirection, withEnergy}
 use Rattle.judge.specs.declared.Sensor.{Sensor}
 use Rattle.rig.specs.declared.Pending.{Pending}
 use Rattle.rig.specs.Words.{codeOf, verdictOf}
+use Rattle.laws.specs.Ordered.{Order, multiplexers, direction, energy, orderCode, pairOf, askedBy}
 use Rattle.laws.proofs.Tests.{by-test}
 
 pub record WindowFits (w : Window) : Type 0 where
   pub start : w .start ≤ 31
   pub stop : w .stop ≤ 31
 
+pub record SensorFits (x : Sensor) : Type 0 where
+  pub mux : x .mux .byte < 0x100
+  pub direction : WindowFits (x .direction)
+  pub energy : WindowFits (x .energy)
+
 -- the bounds of the core, said of the parts that have one
-pub record Fit (s : Supply) (m b : ℕ) (d e : Window) : Type 0 where
+pub record Fit (s : Supply) (m : ℕ) (x : Sensor) : Type 0 where
   pub safe : Safe s
   pub quiet : Quiet s
   pub mask : m ≤ 7
-  pub mux : b < 0x100
-  pub direction : WindowFits d
-  pub energy : WindowFits e
+  pub sensor : SensorFits x
 
 abbrev pub CoreFits : Core → Type 0
-CoreFits c = let x = c .settings .sensor in Fit (c .stop) (c .settings .mask) (x .mux .byte) (x .direction) (x .energy)
+CoreFits c = Fit (c .stop) (c .settings .mask) (c .settings .sensor)
 
--- the core that a verdict applies, if it does, fits
-abbrev pub Keeps : Verdict → Type 0
-Keeps (Apply d) = CoreFits d
-Keeps (Deny why) = Unit {0}
+-- the core that a verdict applies, if it does: it fits where H holds, and what is then ordered of the sensor is as P says
+abbrev pub Keeps : Type 0 → (Sensor → Type 0) → Verdict → Type 0
+Keeps H P (Apply d) = (H → CoreFits d) × P (d .settings .sensor)
+Keeps H P (Deny why) = Unit {0}
+
+-- of a single: nothing is ordered of the sensor
+abbrev pub KeepsSingle : Core → Verdict → Type 0
+KeepsSingle c = Keeps (CoreFits c) (_≡ c .settings .sensor)
 
 supply-fits : (c : Core) (s : Supply) → CoreFits c → Safe s → Quiet s → CoreFits (withStop c s)
-supply-fits c s h safe quiet = record { safe = safe; quiet = quiet; mask = h .mask; mux = h .mux; direction = h .direction; energy = h .energy }
+supply-fits c s h safe quiet = record { safe = safe; quiet = quiet; mask = h .mask; sensor = h .sensor }
 
-carried-keeps : (c : Core) (ch : Change) → CoreFits c → SafeChange ch → QuietChange ch → Keeps (carried c ch)
+carried-keeps : (c : Core) (ch : Change) → (CoreFits c → SafeChange ch) → (CoreFits c → QuietChange ch) → KeepsSingle c (carried c ch)
 unfolding carried
-carried-keeps c (Done s) h safe quiet = supply-fits c s h safe quiet
-carried-keeps c (Refused why) h safe quiet = tt
+carried-keeps c (Done s) safe quiet = (λ h. supply-fits c s h (safe h) (quiet h), refl)
+carried-keeps c (Refused why) safe quiet = tt
 
-relay-keeps : (c : Core) (w : RelayWord) → CoreFits c → Keeps (ordered c w)
-relay-keeps c On h = supply-fits c (relayed (c .stop) true) h (relayed-safe (c .stop) true (h .safe)) (relayed-quiet (c .stop) true (h .quiet))
-relay-keeps c Off h = supply-fits c (relayed (c .stop) false) h (relayed-safe (c .stop) false (h .safe)) (relayed-quiet (c .stop) false (h .quiet))
-relay-keeps c (Bad why) h = tt
+relay-keeps : (c : Core) (w : RelayWord) → KeepsSingle c (ordered c w)
+relay-keeps c On = (λ h. supply-fits c (relayed (c .stop) true) h (relayed-safe (c .stop) true (h .safe)) (relayed-quiet (c .stop) true (h .quiet)), refl)
+relay-keeps c Off = (λ h. supply-fits c (relayed (c .stop) false) h (relayed-safe (c .stop) false (h .safe)) (relayed-quiet (c .stop) false (h .quiet)), refl)
+relay-keeps c (Bad why) = tt
 
-mode-keeps : (c : Core) (low : ℕ) → CoreFits c → Keeps (modeCmd c low)
+mode-keeps : (c : Core) (low : ℕ) → KeepsSingle c (modeCmd c low)
 unfolding modeCmd
-mode-keeps c low h = by-test Keeps (eqb low 0) (λ e. h) (λ e. by-test Keeps (eqb low 1) (λ f. h) (λ f. tt))
+mode-keeps c low = by-test (KeepsSingle c) (eqb low 0) (λ e. (λ h. h, refl)) (λ e. by-test (KeepsSingle c) (eqb low 1) (λ f. (λ h. h, refl)) (λ f. tt))
 
-mask-fits : (c : Core) (low : ℕ) → CoreFits c → Fit (c .stop) (low % 8) (c .settings .sensor .mux .byte) (c .settings .sensor .direction) (c .settings .sensor .energy)
-mask-fits c low h = record { safe = h .safe; quiet = h .quiet; mask = omega arith; mux = h .mux; direction = h .direction; energy = h .energy }
+mask-fits : (c : Core) (low : ℕ) → CoreFits c → Fit (c .stop) (low % 8) (c .settings .sensor)
+mask-fits c low h = record { safe = h .safe; quiet = h .quiet; mask = omega arith; sensor = h .sensor }
 
-pub single-keeps : (c : Core) (code low : ℕ) → CoreFits c → Keeps (singleOf c code low)
+pub single-keeps : (c : Core) (code low : ℕ) → KeepsSingle c (singleOf c code low)
 unfolding singleOf
-single-keeps c code low h =
+single-keeps c code low =
     let s = c .stop in
-    by-test Keeps (eqb code 0x08) (λ e. relay-keeps c (relayOf low) h) (λ e.
-    by-test Keeps (eqb code 0x0C) (λ e. h) (λ e.
-    by-test Keeps (eqb code 0x26) (λ e. mask-fits c low h) (λ e.
-    by-test Keeps (eqb code 0x28) (λ e. carried-keeps c (targeted s low) h (targeted-safe s low (h .safe)) (targeted-quiet s low (h .quiet))) (λ e.
-    by-test Keeps (eqb code 0x29) (λ e. carried-keeps c (limited s low) h (limited-safe s low (h .safe)) (limited-quiet s low (h .quiet))) (λ e.
-    by-test Keeps (eqb code 0x2B) (λ e. mode-keeps c low h) (λ e.
-    by-test Keeps (eqb code 0x2D) (λ e. carried-keeps c (switched s low) h (switched-safe s low (h .safe)) (switched-quiet s low (h .quiet))) (λ e. tt)))))))
+    let K = KeepsSingle c in
+    by-test K (eqb code 0x08) (λ e. relay-keeps c (relayOf low)) (λ e.
+    by-test K (eqb code 0x0C) (λ e. (λ h. h, refl)) (λ e.
+    by-test K (eqb code 0x26) (λ e. (λ h. mask-fits c low h, refl)) (λ e.
+    by-test K (eqb code 0x28) (λ e. carried-keeps c (targeted s low) (λ h. targeted-safe s low (h .safe)) (λ h. targeted-quiet s low (h .quiet))) (λ e.
+    by-test K (eqb code 0x29) (λ e. carried-keeps c (limited s low) (λ h. limited-safe s low (h .safe)) (λ h. limited-quiet s low (h .quiet))) (λ e.
+    by-test K (eqb code 0x2B) (λ e. mode-keeps c low) (λ e.
+    by-test K (eqb code 0x2D) (λ e. carried-keeps c (switched s low) (λ h. switched-safe s low (h .safe)) (λ h. switched-quiet s low (h .quiet))) (λ e. tt)))))))
 
-counted-keeps : (n : ℕ) (c : Core) (x : Sensor) → CoreFits (withSettings c (withSensor (c .settings) x)) → Keeps (countedOf n c x)
-unfolding countedOf
-counted-keeps n c x h = by-test Keeps (eqb n 2) (λ e. h) (λ e. tt)
+-- the sensor with what one block orders
+sensed : Order → Sensor → ℕ → ℕ → Sensor
+sensed multiplexers s x y = withMux s (muxWord x y)
+sensed direction s x y = withDirection s (windowOf x y)
+sensed energy s x y = withEnergy s (windowOf x y)
 
 window-fits : (x y : ℕ) → WindowFits (windowOf x y)
 window-fits x y = record { start = omega arith; stop = omega arith }
 
-block-keeps : (c : Core) (code n x y : ℕ) → CoreFits c → x < 0x100 → Keeps (blockOf c code n x y)
-unfolding blockOf
-block-keeps c code n x y h b =
-    let w = window-fits x y in
-    by-test Keeps (eqb code 0x20) (λ e. counted-keeps n c (withMux (c .settings .sensor) (muxWord x y)) (record { safe = h .safe; quiet = h .quiet; mask = h .mask; mux = b; direction = h .direction; energy = h .energy })) (λ e.
-    by-test Keeps (eqb code 0x23) (λ e. counted-keeps n c (withDirection (c .settings .sensor) (windowOf x y)) (record { safe = h .safe; quiet = h .quiet; mask = h .mask; mux = h .mux; direction = w; energy = h .energy })) (λ e.
-    by-test Keeps (eqb code 0x24) (λ e. counted-keeps n c (withEnergy (c .settings .sensor) (windowOf x y)) (record { safe = h .safe; quiet = h .quiet; mask = h .mask; mux = h .mux; direction = h .direction; energy = w })) (λ e. tt)))
+sensed-fits : (q : Order) (s : Sensor) (x y : ℕ) → x < 0x100 → SensorFits s → SensorFits (sensed q s x y)
+unfolding sensed
+sensed-fits multiplexers s x y b h = record { mux = b; direction = h .direction; energy = h .energy }
+sensed-fits direction s x y b h = record { mux = h .mux; direction = window-fits x y; energy = h .energy }
+sensed-fits energy s x y b h = record { mux = h .mux; direction = h .direction; energy = window-fits x y }
 
-pub verdict-keeps : (j : Judged) (c : Core) (p : Pending) → CoreFits c → p .first < 0x100 → Keeps (verdictOf j c p)
+ninth : (y : ℕ) → pick (eqb (y % 2) 1) 1 0 ≡ y % 2
+ninth y =
+    split (eqb (y % 2) 1)
+    (λ e. rw e (sym (eqb-true (y % 2) 1 e)))
+    (λ e. let n = eqb-false (y % 2) 1 e in let z : 0 ≡ y % 2 = omega arith in rw e z)
+
+-- the part that a block of code `orderCode q` orders, and no other
+sensed-pair : (q p : Order) (s : Sensor) (x y : ℕ) → pairOf p (sensed q s x y) ≡ pick (eqb (orderCode q) (orderCode p)) (askedBy p x y) (pairOf p s)
+unfolding sensed
+sensed-pair multiplexers multiplexers s x y = ap (λ (b : ℕ). (x, b)) (ninth y)
+sensed-pair multiplexers direction s x y = refl
+sensed-pair multiplexers energy s x y = refl
+sensed-pair direction multiplexers s x y = refl
+sensed-pair direction direction s x y = refl
+sensed-pair direction energy s x y = refl
+sensed-pair energy multiplexers s x y = refl
+sensed-pair energy direction s x y = refl
+sensed-pair energy energy s x y = refl
+
+-- what is ordered after an accepted block of that code with the bytes x and y, part by part
+abbrev pub Asked : Sensor → ℕ → ℕ → ℕ → Sensor → Type 0
+Asked s code x y t = (p : Order) → pairOf p t ≡ pick (eqb code (orderCode p)) (askedBy p x y) (pairOf p s)
+
+abbrev pub KeepsBlock : Core → ℕ → ℕ → ℕ → Verdict → Type 0
+KeepsBlock c code x y = Keeps (CoreFits c × (x < 0x100)) (Asked (c .settings .sensor) code x y)
+
+counted-keeps : (q : Order) (n : ℕ) (c : Core) (x y code : ℕ) → eqb code (orderCode q) ≡ true
+    → KeepsBlock c code x y (countedOf n c (sensed q (c .settings .sensor) x y))
+unfolding countedOf
+counted-keeps q n c x y code e =
+    let s = c .settings .sensor in
+    by-test (KeepsBlock c code x y) (eqb n 2)
+    (λ f. (
+      λ h. record { safe = h .0 .safe; quiet = h .0 .quiet; mask = h .0 .mask; sensor = sensed-fits q s x y (h .1) (h .0 .sensor) },
+      rw (eqb-true code (orderCode q) e) (λ p. sensed-pair q p s x y),
+    ))
+    (λ f. tt)
+
+block-keeps : (c : Core) (code n x y : ℕ) → KeepsBlock c code x y (blockOf c code n x y)
+unfolding blockOf sensed
+block-keeps c code n x y =
+    let K = KeepsBlock c code x y in
+    by-test K (eqb code 0x20) (counted-keeps multiplexers n c x y code) (λ e.
+    by-test K (eqb code 0x23) (counted-keeps direction n c x y code) (λ e.
+    by-test K (eqb code 0x24) (counted-keeps energy n c x y code) (λ e. tt)))
+
+pub verdict-keeps : (j : Judged) (c : Core) (p : Pending) → KeepsBlock c (codeOf (p .head)) (p .first) (p .second) (verdictOf j c p)
 unfolding verdictOf
-verdict-keeps Right c p h b = block-keeps c (codeOf (p .head)) (p .n) (p .first) (p .second) h b
-verdict-keeps Wrong c p h b = tt
+verdict-keeps Right c p = block-keeps c (codeOf (p .head)) (p .n) (p .first) (p .second)
+verdict-keeps Wrong c p = tt

@@ -2,7 +2,8 @@
 -- Assumes nothing.
 use Prim.Native.Nat.{ℕ, _%_}
 use mathlib.Core.Path.{_≡_, refl, ap}
-use mathlib.Core.List.{List, [], _∷_}
+use mathlib.Core.Bool.{true}
+use mathlib.Core.List.{List, [], _∷_, _++_}
 use native.Mathlib.Omega.{arith}
 use lib.ListN.{replicate}
 use Rattle.supply.specs.Rules.{relayOf, targeted}
@@ -17,9 +18,11 @@ use Rattle.rig.specs.declared.Reply.the-variants.{Plain}
 use Rattle.rig.specs.declared.Taken.{Taken}
 use Rattle.rig.specs.Words.{kindOf, refusedOf, settledOf, headOf, freshOf, verdictOf, closedOf, droppedOf, pendingOf, takeOf}
 use Rattle.rig.specs.Start.{startRig}
+use Rattle.laws.specs.Ordered.{energy, pairOf}
 use Rattle.laws.specs.Replies.{ReplyLaws}
 use Rattle.laws.specs.Rows.{RowLaws}
-use Rattle.laws.specs.Runs.{Happening, word, cut, ours, rigAfter, ledger, rigReached, given}
+use Rattle.laws.specs.Runs.{Happening, word, spin, cut, ours, rigAfter, ledger, rigReached, given}
+use Rattle.laws.specs.Register.{orderedIn, orders}
 use Rattle.laws.proofs.Replies.{reply-laws}
 use Rattle.laws.proofs.Rows.{row-laws}
 use Rattle.laws.proofs.One.{one-take}
@@ -55,6 +58,42 @@ runs :
     × (left (send 0x6402 ∷ send 0xA401 ∷ send 0xE415 ∷ []) ≡ 1 ∷ 0x03 ∷ 0x64 ∷ 0x00 ∷ [])
 unfolding rigAfter ledger takeOf pendingOf droppedOf closedOf verdictOf freshOf headOf settledOf refusedOf kindOf singleOf blockOf countedOf carried relayOf targeted crcOf crcFrom shift
 runs = (refl, refl, refl, refl, refl, refl, refl, refl, refl, refl, refl)
+
+-- the blocks of an energy window from 1 to 0 and of one from 19 to 29, without their end words
+abbrev window : List Happening
+window = send 0x6402 ∷ send 0xA401 ∷ send 0xA400 ∷ []
+
+abbrev other : List Happening
+other = send 0x6402 ∷ send 0xA413 ∷ send 0xA41D ∷ []
+
+-- of the energy window, what a run leaves ordered and in the register, and what the ledger says of both
+abbrev sensed : List Happening → List (ℕ × ℕ)
+sensed es =
+    let r = rigReached ours es in
+    let l = given ours es in
+    pairOf energy (orderedIn r) ∷ pairOf energy (r .register) ∷ l .ordered energy ∷ l .register energy ∷ []
+
+-- so many ordered, and so many in the register, in the rig and in the ledger alike
+abbrev all : ℕ × ℕ → ℕ × ℕ → List (ℕ × ℕ)
+all ordered register = ordered ∷ register ∷ ordered ∷ register ∷ []
+
+registers :
+    -- ordered, and not yet in the register; an order it is, so that the law of the spin is about something
+    (orders ours energy (rigReached ours window) 0xE415 ≡ true)
+    × (sensed (window ++ (send 0xE415 ∷ [])) ≡ all (1, 0) (0, 0))
+    -- a spin copies it; the next order waits again, and of two the later is copied
+    × (sensed (window ++ (send 0xE415 ∷ spin ∷ [])) ≡ all (1, 0) (1, 0))
+    × (sensed (window ++ (send 0xE415 ∷ spin ∷ (other ++ (send 0xE43B ∷ [])))) ≡ all (19, 29) (1, 0))
+    × (sensed (other ++ (send 0xE43B ∷ (window ++ (send 0xE415 ∷ spin ∷ [])))) ≡ all (1, 0) (1, 0))
+    -- a spin amid the block's words copies what was ordered before it
+    × (sensed (window ++ (spin ∷ send 0xE415 ∷ [])) ≡ all (1, 0) (0, 0))
+    -- a wrong check, and a block dropped by a single, order nothing
+    × (sensed (window ++ (send 0xE407 ∷ spin ∷ [])) ≡ all (0, 0) (0, 0))
+    × (sensed (window ++ (send 0x0802 ∷ send 0xE415 ∷ spin ∷ [])) ≡ all (0, 0) (0, 0))
+    -- a power cut clears both
+    × (sensed (window ++ (send 0xE415 ∷ spin ∷ cut ∷ [])) ≡ all (0, 0) (0, 0))
+unfolding rigAfter ledger takeOf pendingOf droppedOf closedOf verdictOf freshOf headOf settledOf refusedOf kindOf singleOf blockOf countedOf relayOf crcOf crcFrom shift
+registers = (refl, refl, refl, refl, refl, refl, refl, refl, refl)
 
 -- 0C00 at the start is accepted, 8000 is refused 0Bh, by every function under the laws
 accepts : takeOf startRig 0x0C00 .reply ≡ Plain Accepted

@@ -10,5 +10,6 @@ pub mod Blocks
 pub mod Begun
 pub mod Bounds
 pub mod Runs
+pub mod Register
 pub mod One
 pub mod Examples

@@ -1,9 +1,10 @@
 -- What a word may move, by its reply (specs/Replies): by the cases of a word, and in each by the verdict.
 -- Assumes nothing.
-use Prim.Native.Nat.{ℕ, _/_, _<_, _≤_}
-use mathlib.Core.Path.{_≡_, refl, ap, sym, _∙_}
-use mathlib.Core.Bool.{Bool, true}
+use Prim.Native.Nat.{ℕ, _/_, _%_, _<_, _≤_}
+use mathlib.Core.Path.{_≡_, refl, ap, sym, subst, _∙_}
+use mathlib.Core.Bool.{Bool, true, _&&_}
 use native.Mathlib.Omega.{arith}
+use lib.Dec.{eqb}
 use Rattle.base.specs.Pick.{pick}
 use Rattle.judge.specs.declared.Core.{Core}
 use Rattle.judge.specs.declared.Verdict.the-variants.{Apply, Deny}
@@ -23,7 +24,8 @@ use Rattle.rig.specs.Records.{withCore, withFaults, withPending, withCheck}
 use Rattle.rig.specs.Words.{highOf, lowOf, kindOf, settledOf, refusedOf, freshOf, afterDrop, dropBlock, droppedOf, pendingOf, takeOf}
 use Rattle.rig.specs.Replies.{refusalsOf}
 use Rattle.laws.specs.Results.{droppedRig}
-use Rattle.laws.specs.Replies.{After, Apart, afterwards, Never, ReplyLaws}
+use Rattle.laws.specs.Ordered.{Order, orderCode, pairOf, askedBy, isAccepted}
+use Rattle.laws.specs.Replies.{After, Apart, closing, afterwards, Never, ReplyLaws}
 use Rattle.laws.specs.Runs.{codes, oneOf}
 use Rattle.laws.proofs.WordKinds.{IsKind, kind-of, closing-is}
 use Rattle.laws.proofs.Words.{takes, judged, begun, Case, idle, kept, closed, swallowed, again, case}
@@ -31,24 +33,34 @@ use Rattle.laws.proofs.Words.{takes, judged, begun, Case, idle, kept, c
 -- a rig in which nothing but core, faults, pending block and last check may differ
 alike : (r : Rig) (c : Core) (f : Faults) (p : Pending) (k : ℕ)
     → Apart r (withCheck (withPending (withFaults (withCore r c) f) p) k)
-alike r c f p k = record { panel = refl; sending = refl; edbs = refl }
+alike r c f p k = record { panel = refl; sending = refl; edbs = refl; register = refl }
 
--- what the reply's kind lets move, what no word moves, and the last check
+-- what was ordered of the sensor, part by part, after a word with this reply; the test says whether it closed the block
+abbrev pub Ordered : Rig → Bool → Rig → Reply → Type 0
+Ordered r b q y =
+    (p : Order) → pairOf p (q .core .settings .sensor)
+    ≡ pick (b && (isAccepted y && eqb (r .pending .head % 64) (orderCode p))) (askedBy p (r .pending .first) (r .pending .second)) (pairOf p (r .core .settings .sensor))
+
+-- what the reply's kind lets move, what no word moves, the last check, and what was ordered
 abbrev Moved : Rig → ℕ → Bool → Taken → Type 0
-Moved r w b t = After r w (t .rig) (t .reply) × Apart r (t .rig) × (t .rig .check ≡ pick b (r .pending .check) (r .check))
+Moved r w b t =
+    After r w (t .rig) (t .reply) × Apart r (t .rig) × (t .rig .check ≡ pick b (r .pending .check) (r .check)) × Ordered r b (t .rig) (t .reply)
 
 moved : (w : ℕ) {r : Rig} {b : Bool} {t : Taken} → Case r (highOf w) (lowOf w) b t → Moved r w b t
 unfolding settledOf refusedOf
-moved w (idle e j (judged (Apply c) h)) = ((refl, rw e refl), alike _ _ _ _ _, refl)
-moved w (idle e j (judged (Deny why) h)) = ((record { core = refl; pending = rw e refl }, rw e refl), alike _ _ _ _ _, refl)
-moved w (idle e j (begun h)) = ((refl, refl, rw e refl), alike _ _ _ _ _, refl)
-moved w (kept e h) = ((refl, refl, rw e refl), alike _ _ _ _ _, refl)
-moved w (closed e (Apply c) h) = ((refl, rw e refl), alike _ _ _ _ _, refl)
-moved w (closed e (Deny why) h) = ((record { core = refl; pending = rw e refl }, rw e refl), alike _ _ _ _ _, refl)
-moved w (swallowed e) = ((e, record { core = refl; pending = rw e refl }, refl), alike _ _ _ _ _, refl)
-moved w (again e j (judged (Apply c) h)) = ((e, refl, rw e refl), alike _ _ _ _ _, refl)
-moved w (again e j (judged (Deny why) h)) = ((e, record { core = refl; pending = rw e refl }, refl), alike _ _ _ _ _, refl)
-moved w (again e j (begun h)) = ((e, refl, refl, refl), alike _ _ _ _ _, refl)
+moved w (idle e j (judged (Apply c) h)) = ((refl, rw e refl), alike _ _ _ _ _, refl, λ p. ap (pairOf p) (h .1))
+moved w (idle e j (judged (Deny why) h)) = ((record { core = refl; pending = rw e refl }, rw e refl), alike _ _ _ _ _, refl, λ p. refl)
+moved w (idle e j (begun h)) = ((refl, refl, rw e refl), alike _ _ _ _ _, refl, λ p. refl)
+moved w (kept e h) = ((refl, refl, rw e refl), alike _ _ _ _ _, refl, λ p. refl)
+moved w (closed e (Apply c) h) = ((refl, rw e refl), alike _ _ _ _ _, refl, h .1)
+moved w (closed e (Deny why) h) = ((record { core = refl; pending = rw e refl }, rw e refl), alike _ _ _ _ _, refl, λ p. refl)
+moved w (swallowed e) = ((e, record { core = refl; pending = rw e refl }, refl), alike _ _ _ _ _, refl, λ p. refl)
+moved w (again e j (judged (Apply c) h)) = ((e, refl, rw e refl), alike _ _ _ _ _, refl, λ p. ap (pairOf p) (h .1))
+moved w (again e j (judged (Deny why) h)) = ((e, record { core = refl; pending = rw e refl }, refl), alike _ _ _ _ _, refl, λ p. refl)
+moved w (again e j (begun h)) = ((e, refl, refl, refl), alike _ _ _ _ _, refl, λ p. refl)
+
+pub ordered-word : (r : Rig) (w : ℕ) → Ordered r (closing r w) (takeOf r w .rig) (takeOf r w .reply)
+ordered-word r w = subst (λ (b : Bool). Ordered r b (takeOf r w .rig) (takeOf r w .reply)) (sym (closing-is r w)) (moved w (case r w) .3)
 
 -- a single or a head: the dropped rig has nothing pending, and takes the word by the same rule
 again-is : (r : Rig) (q : ℕ) (k : Kind) (high low : ℕ) → IsKind q k → q < 2 → pendingOf r k high low ≡ afterDrop (freshOf (dropBlock r) k high low)

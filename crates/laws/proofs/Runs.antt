@@ -15,6 +15,7 @@ use Rattle.base.specs.Pick.{pick}
 use Rattle.frame.specs.Items.{items, heldAt}
 use Rattle.frame.specs.Read.{remOf, isPlain}
 use Rattle.frame.proofs.Rows.{plain-lt}
+use Rattle.judge.specs.declared.Sensor.{Sensor}
 use Rattle.rig.specs.declared.Panel.{Panel}
 use Rattle.power.specs.declared.PanelSetting.{PanelSetting}
 use Rattle.power.specs.declared.PanelSetting.the-variants.{Bias, Ground, FreeTime, Flap1, Flap2, Flap3}
@@ -23,16 +24,18 @@ use Rattle.rig.specs.declared.Rig.{Rig}
 use Rattle.rig.specs.Records.{withPanel, withSending}
 use Rattle.rig.specs.Words.{highOf, lowOf, takeOf}
 use Rattle.rig.specs.Replies.{refusalsOf}
-use Rattle.rig.specs.Start.{startRig}
+use Rattle.rig.specs.Start.{clearSensor, startRig}
 use Rattle.power.specs.Power.{panelOf, setOf}
 use Rattle.sending.specs.Sending.{heldOf, bit, nextLatch}
+use Rattle.laws.specs.Ordered.{Order, multiplexers, direction, energy, pairOf}
 use Rattle.laws.specs.Replies.{closing}
-use Rattle.laws.specs.Runs.{FitsPanel, Happening, word, spin, set, cut, frame, ours, happened, rigAfter, heldAs, Ledger, nothingGiven, latestError, latestCode, entered, ledger, rigReached, given, Bounds, panelBy, Kept, SetMoves, RunLaws}
+use Rattle.laws.specs.Runs.{FitsPanel, Happening, word, spin, set, cut, frame, ours, happened, rigAfter, heldAs, Ledger, nothingGiven, latestError, latestCode, orderedBy, entered, ledger, rigReached, given, SensorBounds, Bounds, panelBy, Kept, SetMoves, RunLaws}
 use Rattle.laws.proofs.Tests.{by-test}
 use Rattle.laws.proofs.Words.{case}
-use Rattle.laws.proofs.Replies.{reply-laws}
+use Rattle.laws.proofs.Commands.{SensorFits}
+use Rattle.laws.proofs.Replies.{reply-laws, ordered-word}
 use Rattle.laws.proofs.Bounds.{nothing-fits, Fits, word-fits, Told, told}
-use Rattle.laws.proofs.Begun.{begun-word, closed-by, check-of, named-by}
+use Rattle.laws.proofs.Begun.{begun-word, closed-by, check-of, named-by, ordered-by}
 
 record PanelFits (p : Panel) : Type 0 where
   bias : p .bias < 0x100
@@ -52,6 +55,17 @@ record Inv (r : Rig) (l : Ledger) : Type 0 where
   fits : Fits r
   panel : PanelFits (r .panel)
   sending : SendingFits (r .sending)
+  ordered : (p : Order) → pairOf p (r .core .settings .sensor) ≡ l .ordered p
+  register : (p : Order) → pairOf p (r .register) ≡ l .register p
+  sensor : SensorFits (r .register)
+
+clear-fits : SensorFits clearSensor
+clear-fits = record { mux = omega arith; direction = record { start = omega arith; stop = omega arith }; energy = record { start = omega arith; stop = omega arith } }
+
+clear-pair : (p : Order) → pairOf p clearSensor ≡ (0, 0)
+clear-pair multiplexers = refl
+clear-pair direction = refl
+clear-pair energy = refl
 
 start-inv : Inv startRig nothingGiven
 start-inv =
@@ -66,14 +80,15 @@ start-inv =
           safe = record { under = omega arith; limit-small = omega arith; level-small = omega arith };
           quiet = λ e. (refl, refl);
           mask = omega arith;
-          mux = omega arith;
-          direction = record { start = omega arith; stop = omega arith };
-          energy = record { start = omega arith; stop = omega arith };
+          sensor = clear-fits;
         },
         nothing-fits,
       );
       panel = record { bias = omega arith; ground = omega arith; free = omega arith };
       sending = record { next = omega arith; latch = omega arith };
+      ordered = clear-pair;
+      register = clear-pair;
+      sensor = clear-fits;
     }
 
 word-inv : (r : Rig) (l : Ledger) (w : ℕ) (h : w < 0x10000) → Inv r l → Inv (takeOf r w .rig) (entered ours r (word w h) l)
@@ -95,6 +110,12 @@ word-inv r l w h i =
       fits = word-fits (case r w) high low (i .fits);
       panel = rw (apart .panel) (i .panel);
       sending = rw (apart .sending) (i .sending);
+      ordered = λ p.
+          ordered-word r w p
+          ∙ ordered-by r (l .begun) w reply p (pairOf p (r .core .settings .sensor)) (i .holds)
+          ∙ ap (orderedBy p (l .begun) w reply) (i .ordered p);
+      register = rw (apart .register) (i .register);
+      sensor = rw (apart .register) (i .sensor);
     }
 
 panel-set : (p : Panel) (s : PanelSetting) → FitsPanel s → PanelFits p → PanelFits (panelOf p s)
@@ -116,19 +137,22 @@ after-inv r l spin i =
       holds = i .holds;
       check = i .check;
       byte = i .byte;
-      fits = (record { safe = stepped-safe (r .core .stop) (c .safe); quiet = stepped-quiet (r .core .stop) (c .quiet); mask = c .mask; mux = c .mux; direction = c .direction; energy = c .energy }, i .fits .1);
+      fits = (record { safe = stepped-safe (r .core .stop) (c .safe); quiet = stepped-quiet (r .core .stop) (c .quiet); mask = c .mask; sensor = c .sensor }, i .fits .1);
       panel = i .panel;
       sending = i .sending;
+      ordered = i .ordered;
+      register = i .ordered;
+      sensor = c .sensor;
     }
 after-inv r l (set s h) i =
-    record { told = i .told; counter = i .counter; holds = i .holds; check = i .check; byte = i .byte; fits = i .fits; panel = panel-set (r .panel) s h (i .panel); sending = i .sending }
+    record { told = i .told; counter = i .counter; holds = i .holds; check = i .check; byte = i .byte; fits = i .fits; panel = panel-set (r .panel) s h (i .panel); sending = i .sending; ordered = i .ordered; register = i .register; sensor = i .sensor }
 after-inv r l cut i = start-inv
 after-inv r l frame i =
     let long : r .edbs .0 < 0x100000000 = let e = i .counter in omega arith in
     let free : r .panel .free < 0x100000000 = let e = i .panel .free in omega arith in
     let at = r .sending .next % 32 in
     let latched : nextLatch r < 0x100000000 = by-test (_< 0x100000000) (eqb at 0) (λ e. long) (λ e. by-test (_< 0x100000000) (eqb at 27) (λ f. free) (λ f. i .sending .latch)) in
-    record { told = i .told; counter = i .counter; holds = i .holds; check = i .check; byte = i .byte; fits = i .fits; panel = i .panel; sending = record { next = omega arith; latch = latched } }
+    record { told = i .told; counter = i .counter; holds = i .holds; check = i .check; byte = i .byte; fits = i .fits; panel = i .panel; sending = record { next = omega arith; latch = latched }; ordered = i .ordered; register = i .register; sensor = i .sensor }
 
 run-inv : (r : Rig) (l : Ledger) (es : List Happening) → Inv r l → Inv (rigAfter ours r es) (ledger ours r l es)
 unfolding rigAfter ledger
@@ -137,6 +161,16 @@ run-inv r l (e ∷ es) i = run-inv (happened ours r e) (entered ours r e l) es (
 
 always : (es : List Happening) → Inv (rigReached ours es) (given ours es)
 always es = run-inv startRig nothingGiven es start-inv
+
+within : {x : Sensor} → SensorFits x → SensorBounds x
+within f =
+    record {
+      mux = f .mux;
+      directionStart = f .direction .start;
+      directionStop = f .direction .stop;
+      energyStart = f .energy .start;
+      energyStop = f .energy .stop;
+    }
 
 bounded : {r : Rig} {l : Ledger} → Inv r l → Bounds r
 bounded i =
@@ -148,11 +182,8 @@ bounded i =
       level = c .safe .level-small;
       off = c .quiet;
       mask = c .mask;
-      mux = c .mux;
-      directionStart = c .direction .start;
-      directionStop = c .direction .stop;
-      energyStart = c .energy .start;
-      energyStop = c .energy .stop;
+      ordered = within (c .sensor);
+      register = within (i .sensor);
       error = i .told .small;
       last = i .told .fits;
       count = let e = i .told .count in omega arith;
@@ -198,6 +229,7 @@ unfolding isPlain
 small r b =
     let s = r .core .settings in
     let p = r .panel in
+    let register = b .register in
     let parallel = bit-small (s .parallel) in
     let enable = bit-small (s .iel .enable) in
     let clock = bit-small (s .iel .clock) in
@@ -222,7 +254,7 @@ panel-is p (Flap3 b) = refl
 
 all-kept : (r : Rig) (p : Panel) (s : Sending)
     → Kept r (withSending (withPanel r p) s)
-all-kept r p s = record { core = refl; faults = refl; pending = refl; check = refl; edbs = refl }
+all-kept r p s = record { core = refl; register = refl; faults = refl; pending = refl; check = refl; edbs = refl }
 
 set-moves : (r : Rig) (s : PanelSetting) → SetMoves r s (setOf r s)
 unfolding setOf
@@ -238,10 +270,12 @@ run-laws =
       errors = λ es. always es .told .known;
       check = λ es. always es .check;
       holds = λ es. always es .holds;
+      ordered = λ es. always es .ordered;
+      register = λ es. always es .register;
       bounds = λ es. bounded (always es);
       widths = λ es. widths (rigReached ours es) (bounded (always es));
       set = set-moves;
       sent = λ r. record { next = refl; latch = refl; panel = refl; kept = all-kept r (r .panel) _ };
-      spin = λ r. record { stop = spin-moves (r .core .stop); edbs = refl; settings = refl; faults = refl; pending = refl; check = refl; panel = refl; sending = refl };
+      spin = λ r. record { stop = spin-moves (r .core .stop); register = refl; edbs = refl; settings = refl; faults = refl; pending = refl; check = refl; panel = refl; sending = refl };
       cut = λ r. refl;
     }

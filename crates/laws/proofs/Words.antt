@@ -21,7 +21,7 @@ use Rattle.rig.specs.Records.{withPending, withCheck}
 use Rattle.rig.specs.Words.{highOf, lowOf, kindOf, codeOf, nothingPending, newBlock, oneMore, settledOf, headOf, freshOf, sameCode, keeps, closes, verdictOf, closedOf, afterDrop, dropBlock, droppedOf, pendingOf, takeOf}
 use Rattle.laws.proofs.Tests.{by-test, and-right}
 use Rattle.laws.proofs.WordKinds.{isEnd, closesIt}
-use Rattle.laws.proofs.Commands.{CoreFits, Keeps, single-keeps, verdict-keeps}
+use Rattle.laws.proofs.Commands.{KeepsSingle, KeepsBlock, single-keeps, verdict-keeps}
 
 -- the decoder's first choice, for a word of a known kind
 pub takes : (r : Rig) (w : ℕ) {b : Bool} {k : Kind} → r .pending .waiting ≡ b → kindOf (highOf w) ≡ k
@@ -31,7 +31,7 @@ takes r w e f = cc
 
 -- a word judged with nothing pending: a verdict, or a new block
 pub data Fresh (r : Rig) (high low : ℕ) : Taken → Type 0 where
-  judged : (v : Verdict) → (CoreFits (r .core) → Keeps v) → Fresh r high low (settledOf r high v)
+  judged : (v : Verdict) → KeepsSingle (r .core) v → Fresh r high low (settledOf r high v)
   begun : low ≤ 79 → Fresh r high low (record { rig = withPending r (newBlock high low); reply = Plain Waiting })
 
 -- a word taken; the test says whether it closes the pending block
@@ -39,7 +39,7 @@ pub data Case (r : Rig) (high low : ℕ) : Bool → Taken → Type 0 where
   idle : r .pending .waiting ≡ false → (t : Taken) → Fresh r high low t → Case r high low false t
   kept : r .pending .waiting ≡ true → r .pending .got < r .pending .n
       → Case r high low false (record { rig = withPending r (oneMore (r .pending) low); reply = Plain Waiting })
-  closed : r .pending .waiting ≡ true → (v : Verdict) → (CoreFits (r .core) → r .pending .first < 0x100 → Keeps v)
+  closed : r .pending .waiting ≡ true → (v : Verdict) → KeepsBlock (r .core) (codeOf (r .pending .head)) (r .pending .first) (r .pending .second) v
       → Case r high low true (settledOf (withCheck (withPending r nothingPending) (r .pending .check)) (r .pending .head) v)
   swallowed : r .pending .waiting ≡ true → Case r high low false (record { rig = dropBlock r; reply = Swallowed })
   again : r .pending .waiting ≡ true → (t : Taken) → Fresh (dropBlock r) high low t → Case r high low false (afterDrop t)
@@ -47,9 +47,9 @@ pub data Case (r : Rig) (high low : ℕ) : Bool → Taken → Type 0 where
 fresh-is : (r : Rig) (k : Kind) (high low : ℕ) → Fresh r high low (freshOf r k high low)
 unfolding freshOf headOf
 fresh-is r Single high low = judged (singleOf (r .core) (codeOf high) low) (single-keeps (r .core) (codeOf high) low)
-fresh-is r Head high low = by-test (Fresh r high low) (ltb 79 low) (λ e. judged (Deny WrongCount) (λ h. tt)) (λ e. begun (ltb-false 79 low e))
-fresh-is r Data high low = judged (Deny StrayWord) (λ h. tt)
-fresh-is r End high low = judged (Deny StrayWord) (λ h. tt)
+fresh-is r Head high low = by-test (Fresh r high low) (ltb 79 low) (λ e. judged (Deny WrongCount) tt) (λ e. begun (ltb-false 79 low e))
+fresh-is r Data high low = judged (Deny StrayWord) tt
+fresh-is r End high low = judged (Deny StrayWord) tt
 
 data-is : (r : Rig) (high low : ℕ) (b : Bool) → r .pending .waiting ≡ true → keeps (r .pending) high ≡ b → Case r high low false (pendingOf r Data high low)
 unfolding pendingOf droppedOf

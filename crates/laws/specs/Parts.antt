@@ -17,7 +17,7 @@ use Rattle.rig.specs.declared.Pending.{Pending}
 use Rattle.rig.specs.declared.Panel.{Panel}
 use Rattle.rig.specs.declared.Sending.{Sending}
 use Rattle.rig.specs.declared.Rig.{Rig}
-use Rattle.rig.specs.Records.{withCore, withFaults, withPending, withCheck, withPanel, withSending, withEdbs, withBias, withGround, withFree, withFlap1, withFlap2, withFlap3}
+use Rattle.rig.specs.Records.{withCore, withRegister, withFaults, withPending, withCheck, withPanel, withSending, withEdbs, withBias, withGround, withFree, withFlap1, withFlap2, withFlap3}
 
 -- the parts of each record
 abbrev pub CoreIs : Core → Supply → Settings → Type 0
@@ -29,9 +29,9 @@ SettingsAre s parallel mask iel sensor = (s .parallel ≡ parallel) × (s .mask 
 abbrev pub SensorIs : Sensor → Mux → Window → Window → Type 0
 SensorIs s mux direction energy = (s .mux ≡ mux) × (s .direction ≡ direction) × (s .energy ≡ energy)
 
-abbrev pub RigIs : Rig → Core → Faults → Pending → ℕ → Panel → Sending → Spins → Type 0
-RigIs r core faults pending check panel sending edbs =
-    (r .core ≡ core) × (r .faults ≡ faults) × (r .pending ≡ pending) × (r .check ≡ check) × (r .panel ≡ panel) × (r .sending ≡ sending) × (r .edbs ≡ edbs)
+abbrev pub RigIs : Rig → Core → Sensor → Faults → Pending → ℕ → Panel → Sending → Spins → Type 0
+RigIs r core register faults pending check panel sending edbs =
+    (r .core ≡ core) × (r .register ≡ register) × (r .faults ≡ faults) × (r .pending ≡ pending) × (r .check ≡ check) × (r .panel ≡ panel) × (r .sending ≡ sending) × (r .edbs ≡ edbs)
 
 abbrev pub PanelIs : Panel → ℕ → ℕ → ℕ → Bool → Bool → Bool → Type 0
 PanelIs p bias ground free flap1 flap2 flap3 =
@@ -47,13 +47,14 @@ pub record Parts : Type 0 where
   pub mux : (s : Sensor) (x : Mux) → SensorIs (withMux s x) x (s .direction) (s .energy)
   pub direction : (s : Sensor) (x : Window) → SensorIs (withDirection s x) (s .mux) x (s .energy)
   pub energy : (s : Sensor) (x : Window) → SensorIs (withEnergy s x) (s .mux) (s .direction) x
-  pub core : (r : Rig) (x : Core) → RigIs (withCore r x) x (r .faults) (r .pending) (r .check) (r .panel) (r .sending) (r .edbs)
-  pub faults : (r : Rig) (x : Faults) → RigIs (withFaults r x) (r .core) x (r .pending) (r .check) (r .panel) (r .sending) (r .edbs)
-  pub pending : (r : Rig) (x : Pending) → RigIs (withPending r x) (r .core) (r .faults) x (r .check) (r .panel) (r .sending) (r .edbs)
-  pub check : (r : Rig) (x : ℕ) → RigIs (withCheck r x) (r .core) (r .faults) (r .pending) x (r .panel) (r .sending) (r .edbs)
-  pub panel : (r : Rig) (x : Panel) → RigIs (withPanel r x) (r .core) (r .faults) (r .pending) (r .check) x (r .sending) (r .edbs)
-  pub sending : (r : Rig) (x : Sending) → RigIs (withSending r x) (r .core) (r .faults) (r .pending) (r .check) (r .panel) x (r .edbs)
-  pub edbs : (r : Rig) (x : Spins) → RigIs (withEdbs r x) (r .core) (r .faults) (r .pending) (r .check) (r .panel) (r .sending) x
+  pub core : (r : Rig) (x : Core) → RigIs (withCore r x) x (r .register) (r .faults) (r .pending) (r .check) (r .panel) (r .sending) (r .edbs)
+  pub register : (r : Rig) (x : Sensor) → RigIs (withRegister r x) (r .core) x (r .faults) (r .pending) (r .check) (r .panel) (r .sending) (r .edbs)
+  pub faults : (r : Rig) (x : Faults) → RigIs (withFaults r x) (r .core) (r .register) x (r .pending) (r .check) (r .panel) (r .sending) (r .edbs)
+  pub pending : (r : Rig) (x : Pending) → RigIs (withPending r x) (r .core) (r .register) (r .faults) x (r .check) (r .panel) (r .sending) (r .edbs)
+  pub check : (r : Rig) (x : ℕ) → RigIs (withCheck r x) (r .core) (r .register) (r .faults) (r .pending) x (r .panel) (r .sending) (r .edbs)
+  pub panel : (r : Rig) (x : Panel) → RigIs (withPanel r x) (r .core) (r .register) (r .faults) (r .pending) (r .check) x (r .sending) (r .edbs)
+  pub sending : (r : Rig) (x : Sending) → RigIs (withSending r x) (r .core) (r .register) (r .faults) (r .pending) (r .check) (r .panel) x (r .edbs)
+  pub edbs : (r : Rig) (x : Spins) → RigIs (withEdbs r x) (r .core) (r .register) (r .faults) (r .pending) (r .check) (r .panel) (r .sending) x
   pub bias : (p : Panel) (x : ℕ) → PanelIs (withBias p x) x (p .ground) (p .free) (p .flap1) (p .flap2) (p .flap3)
   pub ground : (p : Panel) (x : ℕ) → PanelIs (withGround p x) (p .bias) x (p .free) (p .flap1) (p .flap2) (p .flap3)
   pub free : (p : Panel) (x : ℕ) → PanelIs (withFree p x) (p .bias) (p .ground) x (p .flap1) (p .flap2) (p .flap3)

@@ -25,6 +25,7 @@ pub record Apart (r q : Rig) : Type 0 where
   pub panel : q .panel ≡ r .panel
   pub sending : q .sending ≡ r .sending
   pub edbs : q .edbs ≡ r .edbs
+  pub register : q .register ≡ r .register
 
 -- a block that was pending is ended, and where none was, nothing of it moves
 abbrev pub Ended : Rig → Rig → Type 0

@@ -1,16 +1,17 @@
 -- Runs of a rig from the start: any words, spins, settings, power cuts and frames, in any order and number; and what every run keeps.
--- Keeps 01 "Command words" (the counts and codes), "Spins and power", and the widths of "The 40-byte frame". Assumes nothing.
+-- Keeps 01 "Command words" (the counts and codes), "Spins and power", and the widths of "The 40-byte frame"; 02 (ii), the register. Assumes nothing.
 use mathlib.Core.Path.{_≡_}
 use mathlib.Core.Bool.{Bool, true, false, _&&_, _||_}
 use mathlib.Core.List.{List, [], _∷_, _++_}
 use Prim.Native.Nat.{ℕ, _+_, _/_, _%_, _<_, _≤_}
 use lib.Dec.{eqb, leb, ltb}
-use lib.ListN.{length}
+use lib.ListN.{length, getD}
 use Rattle.base.specs.Pick.{pick}
 use Rattle.base.specs.Counts.{spinMore}
 use Rattle.crc.specs.Crc.{crcOf}
 use Rattle.frame.specs.Items.{heldAt}
 use Rattle.frame.specs.Read.{remOf, isPlain}
+use Rattle.judge.specs.declared.Sensor.{Sensor}
 use Rattle.judge.specs.Refusals.{numberOf}
 use Rattle.supply.specs.Laws.{Quiet, SpinMoves}
 use Rattle.power.specs.declared.PanelSetting.{PanelSetting}
@@ -30,6 +31,7 @@ use Rattle.power.specs.Power.{spunOf, cutOf, setOf}
 use Rattle.sending.specs.Sending.{heldOf, sent}
 use Rattle.laws.specs.Results.{none}
 use Rattle.laws.specs.Blocks.{holding}
+use Rattle.laws.specs.Ordered.{Order, orderCode, pairOf, askedBy, isAccepted}
 
 -- a setting is a byte, a 16-bit number or a switch
 abbrev pub FitsPanel : PanelSetting → Type 0
@@ -109,8 +111,14 @@ abbrev pub heldAs : Begun → Pending
 heldAs nothing = none
 heldAs (block h n s) = holding h n s
 
+-- what is ordered after a word with this reply: where it closes a block that is accepted, and of that code, what the first two bytes order; else what was
+abbrev pub orderedBy : Order → Begun → ℕ → Reply → ℕ × ℕ → ℕ × ℕ
+orderedBy p nothing w reply old = old
+orderedBy p (block h n s) w reply old =
+    pick (closedBy (block h n s) w && (isAccepted reply && eqb (h % 64) (orderCode p))) (askedBy p (getD s 0 0) (getD s 1 0)) old
+
 -- What a run has given since the last power cut: how many refusals and how many spins; the number and the named high byte of the latest refusal;
--- the check of the latest block that was closed; and what the words have begun.
+-- the check of the latest block that was closed; what the words have begun; what was ordered of the sensor, and what of that the latest spin copied.
 pub record Ledger : Type 0 where
   pub refusals : ℕ
   pub spins : ℕ
@@ -118,10 +126,13 @@ pub record Ledger : Type 0 where
   pub last : ℕ
   pub check : ℕ
   pub begun : Begun
+  pub ordered : Order → ℕ × ℕ
+  pub register : Order → ℕ × ℕ
 
 -- nothing given: 0, and FFh for the code
 abbrev pub nothingGiven : Ledger
-nothingGiven = record { refusals = 0; spins = 0; error = 0x00; last = 0xFF; check = 0x00; begun = nothing }
+nothingGiven =
+    record { refusals = 0; spins = 0; error = 0x00; last = 0xFF; check = 0x00; begun = nothing; ordered = λ p. (0, 0); register = λ p. (0, 0) }
 
 -- the number of the latest refusal, after this reply; a dropped block is 03h
 abbrev pub latestError : ℕ → Reply → ℕ
@@ -143,7 +154,7 @@ latestCode old named own (Dropped Accepted) = named
 latestCode old named own (Dropped Waiting) = named
 latestCode old named own (Dropped (Refused why)) = own
 
--- what a happening adds: each refusal a word gets is counted, each spin; a power cut begins anew
+-- what a happening adds: each refusal a word gets is counted, each spin, which copies what was ordered; a power cut begins anew
 abbrev pub entered : Machine → Rig → Happening → Ledger → Ledger
 entered m r (word w h) l =
     let reply = m .take r w .reply in
@@ -154,8 +165,20 @@ entered m r (word w h) l =
       last = latestCode (l .last) (namedBy (l .begun) w) (w / 256) reply;
       check = pick (closedBy (l .begun) w) (checkOf (l .begun)) (l .check);
       begun = begunAfter (l .begun) w;
+      ordered = λ p. orderedBy p (l .begun) w reply (l .ordered p);
+      register = l .register;
     }
-entered m r spin l = record { refusals = l .refusals; spins = l .spins + 1; error = l .error; last = l .last; check = l .check; begun = l .begun }
+entered m r spin l =
+    record {
+      refusals = l .refusals;
+      spins = l .spins + 1;
+      error = l .error;
+      last = l .last;
+      check = l .check;
+      begun = l .begun;
+      ordered = l .ordered;
+      register = l .ordered;
+    }
 entered m r (set s h) l = l
 entered m r cut l = nothingGiven
 entered m r frame l = l
@@ -182,6 +205,14 @@ abbrev pub oneOf : List ℕ → ℕ → Bool
 oneOf [] n = false
 oneOf (x ∷ xs) n = eqb n x || oneOf xs n
 
+-- the bounds of a sensor's fields: a byte, and five bits
+pub record SensorBounds (x : Sensor) : Type 0 where
+  pub mux : x .mux .byte < 0x100
+  pub directionStart : x .direction .start ≤ 31
+  pub directionStop : x .direction .stop ≤ 31
+  pub energyStart : x .energy .start ≤ 31
+  pub energyStop : x .energy .stop ≤ 31
+
 -- the bounds of every field
 pub record Bounds (r : Rig) : Type 0 where
   -- the supply: target ≤ limit ≤ 15, level ≤ 15; nothing stands while the relay is off
@@ -191,11 +222,9 @@ pub record Bounds (r : Rig) : Type 0 where
   pub off : Quiet (r .core .stop)
   -- the settings
   pub mask : r .core .settings .mask ≤ 7
-  pub mux : r .core .settings .sensor .mux .byte < 0x100
-  pub directionStart : r .core .settings .sensor .direction .start ≤ 31
-  pub directionStop : r .core .settings .sensor .direction .stop ≤ 31
-  pub energyStart : r .core .settings .sensor .energy .start ≤ 31
-  pub energyStop : r .core .settings .sensor .energy .stop ≤ 31
+  -- what was ordered of the sensor, and its register
+  pub ordered : SensorBounds (r .core .settings .sensor)
+  pub register : SensorBounds (r .register)
   -- the faults and the last check
   pub error : r .faults .error ≤ 15
   pub last : r .faults .last < 0x100
@@ -218,10 +247,11 @@ pub record Bounds (r : Rig) : Type 0 where
   pub latch : r .sending .latch < 0x100000000
   pub edbs : r .edbs .0 < 0x100000000
 
--- the rig q after a spin of the rig r: the supply's level goes one towards its target if relay and stepping are on, the counter adds one;
--- nothing else moves
+-- the rig q after a spin of the rig r: the supply's level goes one towards its target if relay and stepping are on, the register is what was ordered,
+-- the counter adds one; nothing else moves
 pub record Spun (r q : Rig) : Type 0 where
   pub stop : SpinMoves (r .core .stop) (q .core .stop)
+  pub register : q .register ≡ r .core .settings .sensor
   pub edbs : q .edbs ≡ spinMore (r .edbs)
   pub settings : q .core .settings ≡ r .core .settings
   pub faults : q .faults ≡ r .faults
@@ -242,6 +272,7 @@ panelBy p (Flap3 b) = withFlap3 p b
 -- what neither a setting nor a frame moves
 pub record Kept (r q : Rig) : Type 0 where
   pub core : q .core ≡ r .core
+  pub register : q .register ≡ r .register
   pub faults : q .faults ≡ r .faults
   pub pending : q .pending ≡ r .pending
   pub check : q .check ≡ r .check
@@ -277,6 +308,10 @@ pub record RunLaws (m : Machine) : Type 0 where
   pub check : (es : List Happening) → rigReached m es .check ≡ given m es .check
   -- the pending block is what the words sent have begun: its head, its n, and the bytes of its data words; or none
   pub holds : (es : List Happening) → rigReached m es .pending ≡ heldAs (given m es .begun)
+  -- of the sensor is ordered what the latest accepted block of each code said since the last power cut, told by the words and the replies alone; the register
+  -- is what was so ordered at the latest spin since then; 0 where there was none
+  pub ordered : (es : List Happening) (p : Order) → pairOf p (rigReached m es .core .settings .sensor) ≡ given m es .ordered p
+  pub register : (es : List Happening) (p : Order) → pairOf p (rigReached m es .register) ≡ given m es .register p
   -- every field keeps its bounds
   pub bounds : (es : List Happening) → Bounds (rigReached m es)
   -- what a frame shows of each plain item fits the item's width, so that nothing is cut off

@@ -1,5 +1,5 @@
-// Three of the class's mistakes, as runs that show what the desk shows, slot by slot; what is printed is held to the file `stdout`.
-// Keeps 01 "What students would slip past us" and the desk's paragraph of "The 40-byte frame".
+// Four of the class's mistakes, as runs that show what the desk shows, slot by slot; what is printed is held to the file `stdout`.
+// Keeps 01 "What students would slip past us" and the desk's paragraph of "The 40-byte frame"; 02 (ii), the register.
 use bench::Bench;
 use desk::Desk;
 use frame::Item;
@@ -65,11 +65,34 @@ const FILL_AS_FRAME_0: [u32; 7] = [
     WHOLE + 1,
 ];
 
+// An energy window ordered: the next frame still has the old one, and the frame after a spin has it. Then two orders before one spin.
+const WINDOW_TOO_EARLY: [u32; 18] = [
+    0x6402,
+    0xA401,
+    0xA400,
+    0xE415,
+    WHOLE + 2,
+    SPIN + 1,
+    WHOLE + 1,
+    0x6402,
+    0xA401,
+    0xA41E,
+    0xE44F,
+    0x6402,
+    0xA405,
+    0xA409,
+    0xE47E,
+    WHOLE + 1,
+    SPIN + 1,
+    WHOLE + 1,
+];
+
 // Which items the lines of a run end with.
 enum Shows {
     Check,
     Counter,
     Three,
+    Window,
 }
 
 fn say_item(desk: Desk, item: Item) {
@@ -86,20 +109,37 @@ fn say_items(desk: Desk, shows: Shows) {
             say_item(desk, Item::Ground);
             say_item(desk, Item::LongCounter);
         }
+        Shows::Window => {
+            say_item(desk, Item::EnergyStart);
+            say_item(desk, Item::EnergyStop);
+        }
     }
     printing::end();
 }
 
+// The byte of a frame that a run is about.
+fn say_byte(f: &[u8; 40], shows: Shows) {
+    match shows {
+        Shows::Window => {
+            printing::text(b" byte 10 ");
+            printing::byte(f[10]);
+        }
+        _ => {
+            printing::text(b" byte 39 ");
+            printing::byte(f[39]);
+        }
+    }
+}
+
 // The slot's number, from 0, and what came.
-fn say_slot(kind: u32, slot: u32, f: &[u8; 40]) {
+fn say_slot(kind: u32, slot: u32, f: &[u8; 40], shows: Shows) {
     printing::text(b"slot ");
     printing::number(slot as u64);
     match kind {
         WHOLE => {
             printing::text(b" index ");
             printing::small(f[0] % 32);
-            printing::text(b" byte 39 ");
-            printing::byte(f[39]);
+            say_byte(f, shows);
         }
         MISSED => printing::text(b" missed"),
         _ => printing::text(b" fill C0h"),
@@ -111,7 +151,7 @@ fn say_line(bench: Bench, kind: u32, slot: u32, f: &[u8; 40], shows: Shows) {
         return;
     }
     let desk = bench.desk;
-    say_slot(kind, slot, f);
+    say_slot(kind, slot, f, shows);
     say_items(desk, shows);
 }
 
@@ -214,5 +254,10 @@ fn main() {
         b"mistake 3: C0h fill taken for frame 0\n",
         &FILL_AS_FRAME_0,
         Shows::Three,
+    );
+    play(
+        b"mistake 4: reading a window before the spin that takes it to the sensor\n",
+        &WINDOW_TOO_EARLY,
+        Shows::Window,
     );
 }

@@ -4,6 +4,7 @@ use Prim.Native.Nat.{ℕ}
 use mathlib.Core.Bool.{Bool}
 use Rattle.base.specs.declared.Spins.{Spins}
 use Rattle.judge.specs.declared.Core.{Core}
+use Rattle.judge.specs.declared.Sensor.{Sensor}
 use Rattle.rig.specs.declared.Faults.{Faults}
 use Rattle.rig.specs.declared.Pending.{Pending}
 use Rattle.rig.specs.declared.Panel.{Panel}
@@ -12,25 +13,28 @@ use Rattle.rig.specs.declared.Rig.{Rig}
 
 -- the rig
 abbrev pub withCore : Rig → Core → Rig
-withCore r x = record { core = x; faults = r .faults; pending = r .pending; check = r .check; panel = r .panel; sending = r .sending; edbs = r .edbs }
+withCore r x = record { core = x; register = r .register; faults = r .faults; pending = r .pending; check = r .check; panel = r .panel; sending = r .sending; edbs = r .edbs }
+
+abbrev pub withRegister : Rig → Sensor → Rig
+withRegister r x = record { core = r .core; register = x; faults = r .faults; pending = r .pending; check = r .check; panel = r .panel; sending = r .sending; edbs = r .edbs }
 
 abbrev pub withFaults : Rig → Faults → Rig
-withFaults r x = record { core = r .core; faults = x; pending = r .pending; check = r .check; panel = r .panel; sending = r .sending; edbs = r .edbs }
+withFaults r x = record { core = r .core; register = r .register; faults = x; pending = r .pending; check = r .check; panel = r .panel; sending = r .sending; edbs = r .edbs }
 
 abbrev pub withPending : Rig → Pending → Rig
-withPending r x = record { core = r .core; faults = r .faults; pending = x; check = r .check; panel = r .panel; sending = r .sending; edbs = r .edbs }
+withPending r x = record { core = r .core; register = r .register; faults = r .faults; pending = x; check = r .check; panel = r .panel; sending = r .sending; edbs = r .edbs }
 
 abbrev pub withCheck : Rig → ℕ → Rig
-withCheck r x = record { core = r .core; faults = r .faults; pending = r .pending; check = x; panel = r .panel; sending = r .sending; edbs = r .edbs }
+withCheck r x = record { core = r .core; register = r .register; faults = r .faults; pending = r .pending; check = x; panel = r .panel; sending = r .sending; edbs = r .edbs }
 
 abbrev pub withPanel : Rig → Panel → Rig
-withPanel r x = record { core = r .core; faults = r .faults; pending = r .pending; check = r .check; panel = x; sending = r .sending; edbs = r .edbs }
+withPanel r x = record { core = r .core; register = r .register; faults = r .faults; pending = r .pending; check = r .check; panel = x; sending = r .sending; edbs = r .edbs }
 
 abbrev pub withSending : Rig → Sending → Rig
-withSending r x = record { core = r .core; faults = r .faults; pending = r .pending; check = r .check; panel = r .panel; sending = x; edbs = r .edbs }
+withSending r x = record { core = r .core; register = r .register; faults = r .faults; pending = r .pending; check = r .check; panel = r .panel; sending = x; edbs = r .edbs }
 
 abbrev pub withEdbs : Rig → Spins → Rig
-withEdbs r x = record { core = r .core; faults = r .faults; pending = r .pending; check = r .check; panel = r .panel; sending = r .sending; edbs = x }
+withEdbs r x = record { core = r .core; register = r .register; faults = r .faults; pending = r .pending; check = r .check; panel = r .panel; sending = r .sending; edbs = x }
 
 -- the panel
 abbrev pub withBias : Panel → ℕ → Panel

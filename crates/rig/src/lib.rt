@@ -56,10 +56,12 @@ pub struct Sending {
 }
 
 // The widest fields first, here and in the two records above: padding between them would be copied with the rig at every word.
+// `core.settings.sensor` is what was ordered; `register` is the sensor's own, which a spin copies from it and frames show (02 (ii)).
 pub struct Rig {
     pub edbs: Spins,
     pub sending: Sending,
     pub panel: Panel,
+    pub register: Sensor,
     pub core: Core,
     pub faults: Faults,
     pub pending: Pending,
@@ -152,14 +154,16 @@ fn start_core() -> Core
     Core { stop, settings }
 }
 
-// The start, to which a power cut returns.
+// The start, to which a power cut returns. The register is as clear as what is ordered: all 0.
 pub fn start() -> Rig
     ensures { λ r. ⌜ r ≡ startRig ⌝ }
 {
     let core = start_core();
+    let register = core.settings.sensor;
     let pending = nothing_pending();
     Rig {
         core,
+        register,
         faults: Faults {
             error: 0,
             last: 0xFF,

@@ -1,4 +1,4 @@
--- What the rig shows in a frame, and what building one does to it (01, "The 40-byte frame"). Rig and frame meet here alone.
+-- What the rig shows in a frame, and what building one does to it (01, "The 40-byte frame"; 02 (ii), the register). Rig and frame meet here alone.
 -- Assumes nothing.
 use Prim.Native.Nat.{ℕ, _+_, _/_, _%_}
 use mathlib.Core.Bool.{Bool}
@@ -16,12 +16,12 @@ use Rattle.sending.specs.declared.Built.{Built}
 abbrev pub bit : Bool → ℕ
 bit b = pick b 1 0
 
--- What the rig holds of each item. E multiplexers 1-3 are the bits 01, 08, 40 of byte 1 of block 20h; the reduced number is the EDB counter minus 1,
--- modulo 64.
+-- What the rig holds of each item. Windows and multiplexers are those of the sensor's register, not what was ordered; E multiplexers 1-3 are the bits
+-- 01, 08, 40 of byte 1 of block 20h. The reduced number is the EDB counter minus 1, modulo 64.
 abbrev pub heldOf : Rig → Held
 heldOf r =
     let settings = r .core .settings in
-    let sensor = settings .sensor in
+    let sensor = r .register in
     let supply = r .core .stop in
     record {
       parallel = bit (settings .parallel);

@@ -31,13 +31,13 @@ fn reduced(edbs: Spins) -> u8
     ((edbs.0 % 64 + 63) % 64) as u8
 }
 
-// What the rig holds of each item of a frame.
+// What the rig holds of each item of a frame. Of the windows and multiplexers that is the register, not what was ordered (02 (ii)).
 fn held_of(rig: Rig) -> Held
     ensures { λ r. ⌜ r ≡ heldOf rig ⌝ }
 {
     let supply = rig.core.stop;
     let settings = rig.core.settings;
-    let sensor = settings.sensor;
+    let sensor = rig.register;
     Held {
         parallel: bit_of(settings.parallel),
         mux1: sensor.mux.byte % 2,

@@ -1,5 +1,5 @@
 // Each switch and each small setting by itself on a fresh rig: after 35 whole slots its own items have moved, and no other; held to the file `stdout`.
-// Keeps 01 "Command words" and "Spins and power": what each moves; "The 40-byte frame": each item has bits of its own.
+// Keeps 01 "Command words" and "Spins and power": what each moves; "The 40-byte frame": each item has bits of its own. A block has its spin, 02 (ii).
 use bench::Bench;
 use desk::Desk;
 use power::PanelSetting;
@@ -29,7 +29,8 @@ fn single(name: &[u8], word: u16) {
 }
 
 fn block(name: &[u8], head: u16, first: u16, second: u16, end: u16) {
-    say_moved(name, steps::block(bench::fresh(), head, first, second, end));
+    let ordered = steps::block(bench::fresh(), head, first, second, end);
+    say_moved(name, steps::spins(ordered, 1));
 }
 
 fn set(name: &[u8], setting: PanelSetting) {
@@ -47,13 +48,15 @@ fn singles() {
     single(b"a refused word", 0x0800);
 }
 
-// A block also moves the last check.
+// With its spin a block also moves the last check and the counters; without one, the last check alone.
 fn blocks() {
     block(b"multiplexer 1", 0x6002, 0xA001, 0xA000, 0xE015);
     block(b"multiplexer 2", 0x6002, 0xA008, 0xA000, 0xE0A8);
     block(b"multiplexer 3", 0x6002, 0xA040, 0xA000, 0xE05B);
     block(b"direction window 3 to 19", 0x6302, 0xA303, 0xA313, 0xE346);
     block(b"energy window 5 to 9", 0x6402, 0xA405, 0xA409, 0xE47E);
+    let early = steps::block(bench::fresh(), 0x6402, 0xA405, 0xA409, 0xE47E);
+    say_moved(b"energy window 5 to 9 with no spin", early);
 }
 
 fn settings() {

@@ -1,4 +1,4 @@
--- `power::spin` meets its contract: the supply and the counter each take their step.
+-- `power::spin` meets its contract: the supply and the counter each take their step, and the register is what was ordered.
 -- Assumes nothing.
 use borrow.Author.Needs.{needs}
 use Rattle.power.proofs.spin.Statement.{statement}
