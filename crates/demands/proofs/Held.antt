@@ -75,7 +75,7 @@ is-true false t = absurd t
 apart-or-same : ℕ → ℕ → Bool
 apart-or-same i j = eqb i j || apart table i j
 
-second : (a b : Bool) → a ≡ false → T (a || b) → b ≡ true
+pub second : (a b : Bool) → a ≡ false → T (a || b) → b ≡ true
 second true b e t = absurd (true≢false e)
 second false b e t = is-true b t
 

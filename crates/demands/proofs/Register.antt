@@ -1,7 +1,7 @@
 -- When a setting shows (specs/Register), of ours: what is held is read back, and the register is followed by the laws of the rig.
 -- Assumes nothing.
-use mathlib.Core.Path.{_≡_, refl, ap, sym, subst, _∙_}
-use mathlib.Core.Bool.{true}
+use mathlib.Core.Path.{_≡_, refl, ap, subst, _∙_}
+use mathlib.Core.Bool.{Bool, true, not, _||_}
 use mathlib.Core.List.{List, [], _∷_, _++_}
 use Prim.Native.Nat.{ℕ, _%_, _<_}
 use native.Mathlib.Nat.{mod-eq-of-lt}
@@ -9,11 +9,13 @@ use native.Mathlib.Omega.{arith}
 use lib.Dec.{eqb}
 use lib.ListN.{getD}
 use borrow.Author.Tests.{eq-eqb}
+use Rattle.base.proofs.Table.{below}
 use Rattle.frame.specs.declared.Item.{Item}
 use Rattle.frame.specs.declared.Reading.the-variants.{Value}
-use Rattle.frame.specs.Items.{rowOf, heldAt}
+use Rattle.frame.specs.Items.{items, rowOf, heldAt}
 use Rattle.frame.specs.Read.{isPlain, carries, readOf}
 use Rattle.frame.proofs.Laws.{laws as frame-laws}
+use Rattle.frame.proofs.Rows.{row-lt}
 use Rattle.rig.specs.declared.Pending.{Pending}
 use Rattle.rig.specs.declared.Rig.{Rig}
 use Rattle.rig.specs.Start.{startRig}
@@ -24,7 +26,9 @@ use Rattle.laws.specs.Register.{orders, NoSpin, NoOrder}
 use Rattle.laws.proofs.Runs.{run-laws}
 use Rattle.laws.proofs.Register.{register-laws}
 use Rattle.demands.specs.Outfit.{proved}
-use Rattle.demands.specs.Register.{ofSensor, atOnce, Reads, Carries, Each, ShownWhen}
+use Rattle.demands.specs.Held.{names}
+use Rattle.demands.specs.Register.{ofSensor, atOnce, bothLists, Reads, Carries, Each, ShownWhen}
+use Rattle.demands.proofs.Held.{second}
 
 -- what a frame carries reads back modulo its width, and fits it
 pub shows : (es : List Happening) (k : ℕ) → isPlain k ≡ true → carries k (rigReached ours es .sending .next) ≡ true
@@ -48,6 +52,13 @@ others-held : (r : Rig) → Each (Plain r) (atOnce r)
 unfolding isPlain
 others-held r =
     ((refl, refl), ((refl, refl), ((refl, refl), ((refl, refl), ((refl, refl), ((refl, refl), ((refl, refl), ((refl, refl), ((refl, refl), ((refl, refl), ((refl, refl), ((refl, refl), ((refl, refl), ((refl, refl), ((refl, refl), ((refl, refl), ((refl, refl), ((refl, refl), tt))))))))))))))))))
+
+abbrev listed : Rig → ℕ → Bool
+listed r k = not (isPlain k) || names (bothLists r) k
+
+all : (r : Rig) (item : Item) → isPlain (rowOf item) ≡ true → names (bothLists r) (rowOf item) ≡ true
+unfolding isPlain
+all r item e = second (not (isPlain (rowOf item))) (names (bothLists r) (rowOf item)) (ap not e) (below (listed r) items tt (rowOf item) (row-lt item))
 
 -- the items of the sensor are in every frame, as the register has them
 abbrev InEvery : Rig → Item × ℕ → Type 0
@@ -97,6 +108,7 @@ after es w h p head n s fs gs b o u v =
 pub shown-when : ShownWhen proved
 shown-when =
     record {
+      all = all;
       others = λ es. let r = rigReached ours es in each {P = Plain r} {Q = λ x. Carries r x → Reads proved r x} (carried es) (atOnce r) (others-held r);
       before = before;
       after = after;

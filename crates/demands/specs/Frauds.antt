@@ -20,7 +20,6 @@ use Rattle.desk.specs.declared.Received.{Received}
 use Rattle.cell.specs.Cell.{shownBy}
 use Rattle.desk.specs.Desk.{freshDesk, slotOf, missedOf, shows}
 use Rattle.desk.specs.Laws.{answered}
-use Rattle.judge.specs.declared.Refusal.{Refusal}
 use Rattle.rig.specs.declared.Rig.{Rig}
 use Rattle.rig.specs.declared.Answer.the-variants as answer
 use Rattle.rig.specs.declared.Reply.{Reply}

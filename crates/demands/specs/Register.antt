@@ -1,21 +1,22 @@
 -- When a setting shows in a frame: windows and multiplexers after a spin, all else in the next frame that carries it.
 -- Keeps 01 "Command words" (accepted settings and the next frame) and 02 (ii), which takes the three blocks out of that sentence. Assumes nothing.
 use mathlib.Core.Path.{_≡_}
-use mathlib.Core.Bool.{Bool, true}
+use mathlib.Core.Bool.{true}
 use mathlib.Core.List.{List, [], _∷_, _++_}
 use Prim.Native.Nat.{ℕ, _+_, _/_, _%_, _<_}
 use lib.ListN.{getD}
-use Rattle.base.specs.Pick.{pick}
 use Rattle.frame.specs.declared.Item.{Item}
 use Rattle.frame.specs.declared.Item.the-variants.{Parallel, Multiplexer1, Multiplexer2, Multiplexer3, ErrorCode, DirectionStop, DirectionStart, EnergyStop, EnergyStart, LastInvalidCode, IelEnable, ReducedCounter, Bias, Relay, Ground, StopStepping, StopLimit, StopLevel, Flap1, Flap2, Flap3, IelClock, LastCheck, InvalidCount, HeadMask}
 use Rattle.frame.specs.declared.Reading.the-variants.{Value}
 use Rattle.frame.specs.Items.{rowOf}
-use Rattle.frame.specs.Read.{carries, readOf}
+use Rattle.frame.specs.Read.{isPlain, carries, readOf}
 use Rattle.rig.specs.declared.Rig.{Rig}
+use Rattle.sending.specs.Sending.{bit}
 use Rattle.laws.specs.Ordered.{Order, multiplexers, direction, energy, pairOf, askedBy}
 use Rattle.laws.specs.Runs.{Happening, word, spin, block, rigReached, given}
 use Rattle.laws.specs.Register.{orders, NoSpin, NoOrder}
 use Rattle.demands.specs.Outfit.{Outfit}
+use Rattle.demands.specs.Held.{names}
 
 -- the items that the sensor's register shows, by the two numbers of each part: E multiplexers 1-3 are the bits 01, 08, 40 of the byte
 abbrev pub ofSensor : Order → ℕ × ℕ → List (Item × ℕ)
@@ -23,21 +24,17 @@ ofSensor multiplexers x = (Multiplexer1, x .0 % 2) ∷ (Multiplexer2, x .0 / 0x0
 ofSensor direction x = (DirectionStart, x .0) ∷ (DirectionStop, x .1) ∷ []
 ofSensor energy x = (EnergyStart, x .0) ∷ (EnergyStop, x .1) ∷ []
 
--- a switch is 1 or 0
-abbrev pub switch : Bool → ℕ
-switch b = pick b 1 0
-
 -- every other plain item, as the rig stands
 abbrev pub atOnce : Rig → List (Item × ℕ)
 atOnce r =
     let settings = r .core .settings in
     let stop = r .core .stop in
-    (Parallel, switch (settings .parallel))
-    ∷ (IelClock, switch (settings .iel .clock))
-    ∷ (IelEnable, switch (settings .iel .enable))
+    (Parallel, bit (settings .parallel))
+    ∷ (IelClock, bit (settings .iel .clock))
+    ∷ (IelEnable, bit (settings .iel .enable))
     ∷ (HeadMask, settings .mask)
-    ∷ (Relay, switch (stop .relay))
-    ∷ (StopStepping, switch (stop .stepping))
+    ∷ (Relay, bit (stop .relay))
+    ∷ (StopStepping, bit (stop .stepping))
     ∷ (StopLimit, stop .limit)
     ∷ (StopLevel, stop .level)
     ∷ (ErrorCode, r .faults .error)
@@ -47,10 +44,14 @@ atOnce r =
     ∷ (ReducedCounter, (r .edbs .0 + 63) % 64)
     ∷ (Bias, r .panel .bias)
     ∷ (Ground, r .panel .ground)
-    ∷ (Flap1, switch (r .panel .flap1))
-    ∷ (Flap2, switch (r .panel .flap2))
-    ∷ (Flap3, switch (r .panel .flap3))
+    ∷ (Flap1, bit (r .panel .flap1))
+    ∷ (Flap2, bit (r .panel .flap2))
+    ∷ (Flap3, bit (r .panel .flap3))
     ∷ []
+
+-- both together
+abbrev pub bothLists : Rig → List (Item × ℕ)
+bothLists r = atOnce r ++ (ofSensor multiplexers (0, 0) ++ (ofSensor direction (0, 0) ++ ofSensor energy (0, 0)))
 
 -- the next frame of the rig r is read so of an item; and it carries the item
 abbrev pub Reads : Outfit → Rig → Item × ℕ → Type 0
@@ -65,6 +66,8 @@ Each P (x ∷ xs) = P x × Each P xs
 
 -- of any rig's functions, after any run
 pub record ShownWhen (o : Outfit) : Type 0 where
+  -- no plain item is forgotten
+  pub all : (r : Rig) (item : Item) → isPlain (rowOf item) ≡ true → names (bothLists r) (rowOf item) ≡ true
   -- every item but those of the sensor shows in the next frame that carries it, as it then stands
   pub others : (es : List Happening) → let r = rigReached (o .rig) es in Each (λ x. Carries r x → Reads o r x) (atOnce r)
   -- Every frame built before the next spin or power cut shows what the register holds, whatever is ordered meanwhile.

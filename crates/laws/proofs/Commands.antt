@@ -19,33 +19,24 @@ use Rattle.supply.specs.declared.Change.the-variants.{Done, Refused}
 use Rattle.supply.proofs.Kept.{relayed-safe, targeted-safe, limited-safe, switched-safe, relayed-quiet, targeted-quiet, limited-quiet, switched-quiet}
 use Rattle.crc.specs.declared.Judged.{Judged}
 use Rattle.crc.specs.declared.Judged.the-variants.{Right, Wrong}
-use Rattle.judge.specs.declared.Window.{Window}
 use Rattle.judge.specs.declared.Core.{Core}
 use Rattle.judge.specs.declared.Verdict.{Verdict}
 use Rattle.judge.specs.declared.Verdict.the-variants.{Apply, Deny}
-use Rattle.judge.specs.Commands.{carried, ordered, relayCmd, modeCmd, singleOf, muxWord, windowOf, countedOf, blockOf}
+use Rattle.judge.specs.Commands.{carried, ordered, modeCmd, singleOf, muxWord, windowOf, countedOf, blockOf}
 use Rattle.judge.specs.Records.{withStop, withMux, withDirection, withEnergy}
 use Rattle.judge.specs.declared.Sensor.{Sensor}
 use Rattle.rig.specs.declared.Pending.{Pending}
 use Rattle.rig.specs.Words.{codeOf, verdictOf}
 use Rattle.laws.specs.Ordered.{Order, multiplexers, direction, energy, orderCode, pairOf, askedBy}
+use Rattle.laws.specs.Runs.{SensorBounds}
 use Rattle.laws.proofs.Tests.{by-test}
-
-pub record WindowFits (w : Window) : Type 0 where
-  pub start : w .start ≤ 31
-  pub stop : w .stop ≤ 31
-
-pub record SensorFits (x : Sensor) : Type 0 where
-  pub mux : x .mux .byte < 0x100
-  pub direction : WindowFits (x .direction)
-  pub energy : WindowFits (x .energy)
 
 -- the bounds of the core, said of the parts that have one
 pub record Fit (s : Supply) (m : ℕ) (x : Sensor) : Type 0 where
   pub safe : Safe s
   pub quiet : Quiet s
   pub mask : m ≤ 7
-  pub sensor : SensorFits x
+  pub sensor : SensorBounds x
 
 abbrev pub CoreFits : Core → Type 0
 CoreFits c = Fit (c .stop) (c .settings .mask) (c .settings .sensor)
@@ -98,14 +89,14 @@ sensed multiplexers s x y = withMux s (muxWord x y)
 sensed direction s x y = withDirection s (windowOf x y)
 sensed energy s x y = withEnergy s (windowOf x y)
 
-window-fits : (x y : ℕ) → WindowFits (windowOf x y)
-window-fits x y = record { start = omega arith; stop = omega arith }
-
-sensed-fits : (q : Order) (s : Sensor) (x y : ℕ) → x < 0x100 → SensorFits s → SensorFits (sensed q s x y)
+sensed-fits : (q : Order) (s : Sensor) (x y : ℕ) → x < 0x100 → SensorBounds s → SensorBounds (sensed q s x y)
 unfolding sensed
-sensed-fits multiplexers s x y b h = record { mux = b; direction = h .direction; energy = h .energy }
-sensed-fits direction s x y b h = record { mux = h .mux; direction = window-fits x y; energy = h .energy }
-sensed-fits energy s x y b h = record { mux = h .mux; direction = h .direction; energy = window-fits x y }
+sensed-fits multiplexers s x y b h =
+    record { mux = b; directionStart = h .directionStart; directionStop = h .directionStop; energyStart = h .energyStart; energyStop = h .energyStop }
+sensed-fits direction s x y b h =
+    record { mux = h .mux; directionStart = omega arith; directionStop = omega arith; energyStart = h .energyStart; energyStop = h .energyStop }
+sensed-fits energy s x y b h =
+    record { mux = h .mux; directionStart = h .directionStart; directionStop = h .directionStop; energyStart = omega arith; energyStop = omega arith }
 
 ninth : (y : ℕ) → pick (eqb (y % 2) 1) 1 0 ≡ y % 2
 ninth y =

@@ -15,7 +15,6 @@ use Rattle.base.specs.Pick.{pick}
 use Rattle.frame.specs.Items.{items, heldAt}
 use Rattle.frame.specs.Read.{remOf, isPlain}
 use Rattle.frame.proofs.Rows.{plain-lt}
-use Rattle.judge.specs.declared.Sensor.{Sensor}
 use Rattle.rig.specs.declared.Panel.{Panel}
 use Rattle.power.specs.declared.PanelSetting.{PanelSetting}
 use Rattle.power.specs.declared.PanelSetting.the-variants.{Bias, Ground, FreeTime, Flap1, Flap2, Flap3}
@@ -32,7 +31,6 @@ use Rattle.laws.specs.Replies.{closing}
 use Rattle.laws.specs.Runs.{FitsPanel, Happening, word, spin, set, cut, frame, ours, happened, rigAfter, heldAs, Ledger, nothingGiven, latestError, latestCode, orderedBy, entered, ledger, rigReached, given, SensorBounds, Bounds, panelBy, Kept, SetMoves, RunLaws}
 use Rattle.laws.proofs.Tests.{by-test}
 use Rattle.laws.proofs.Words.{case}
-use Rattle.laws.proofs.Commands.{SensorFits}
 use Rattle.laws.proofs.Replies.{reply-laws, ordered-word}
 use Rattle.laws.proofs.Bounds.{nothing-fits, Fits, word-fits, Told, told}
 use Rattle.laws.proofs.Begun.{begun-word, closed-by, check-of, named-by, ordered-by}
@@ -57,10 +55,10 @@ record Inv (r : Rig) (l : Ledger) : Type 0 where
   sending : SendingFits (r .sending)
   ordered : (p : Order) → pairOf p (r .core .settings .sensor) ≡ l .ordered p
   register : (p : Order) → pairOf p (r .register) ≡ l .register p
-  sensor : SensorFits (r .register)
+  sensor : SensorBounds (r .register)
 
-clear-fits : SensorFits clearSensor
-clear-fits = record { mux = omega arith; direction = record { start = omega arith; stop = omega arith }; energy = record { start = omega arith; stop = omega arith } }
+clear-fits : SensorBounds clearSensor
+clear-fits = record { mux = omega arith; directionStart = omega arith; directionStop = omega arith; energyStart = omega arith; energyStop = omega arith }
 
 clear-pair : (p : Order) → pairOf p clearSensor ≡ (0, 0)
 clear-pair multiplexers = refl
@@ -162,16 +160,6 @@ run-inv r l (e ∷ es) i = run-inv (happened ours r e) (entered ours r e l) es (
 always : (es : List Happening) → Inv (rigReached ours es) (given ours es)
 always es = run-inv startRig nothingGiven es start-inv
 
-within : {x : Sensor} → SensorFits x → SensorBounds x
-within f =
-    record {
-      mux = f .mux;
-      directionStart = f .direction .start;
-      directionStop = f .direction .stop;
-      energyStart = f .energy .start;
-      energyStop = f .energy .stop;
-    }
-
 bounded : {r : Rig} {l : Ledger} → Inv r l → Bounds r
 bounded i =
     let c = i .fits .0 in
@@ -182,8 +170,8 @@ bounded i =
       level = c .safe .level-small;
       off = c .quiet;
       mask = c .mask;
-      ordered = within (c .sensor);
-      register = within (i .sensor);
+      ordered = c .sensor;
+      register = i .sensor;
       error = i .told .small;
       last = i .told .fits;
       count = let e = i .told .count in omega arith;
