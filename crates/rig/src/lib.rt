@@ -55,17 +55,18 @@ pub struct Sending {
     pub next: u8,
 }
 
-// The widest fields first, here and in the two records above: padding between them would be copied with the rig at every word.
+// No padding stands between the fields, here or in the two records above: it would be copied with the rig at every word. The order is measured: with the
+// panel before the register a word takes half as long again (docs/FIGURES.md).
 // `core.settings.sensor` is what was ordered; `register` is the sensor's own, which a spin copies from it and frames show (02 (ii)).
 pub struct Rig {
     pub edbs: Spins,
     pub sending: Sending,
-    pub panel: Panel,
     pub register: Sensor,
     pub core: Core,
     pub faults: Faults,
     pub pending: Pending,
     pub check: u8,
+    pub panel: Panel,
 }
 
 // What a word does, by its kind and the block that waits, if one does: it is kept, closes the block, is swallowed with it, or is judged afresh.
