@@ -14,10 +14,10 @@ use Rattle.item_names.specs.declared.InRow.the-variants.{Is}
 use Rattle.item_names.specs.Names.{nameOf}
 use Rattle.item_names.specs.Laws.{Laws}
 
-pub room : (x : Item) → length (nameOf x) ≡ 16
+pub room : (x : Item) → length (nameOf x) ≡ 20
 room x =
-    subst (λ (y : Item). length (nameOf y) ≡ 16) (item-at x)
-    (eqb→eq _ _ (below (λ (k : ℕ). eqb (length (nameOf (itemAt k))) 16) items tt (rowOf x) (row-lt x)))
+    subst (λ (y : Item). length (nameOf y) ≡ 20) (item-at x)
+    (eqb→eq _ _ (below (λ (k : ℕ). eqb (length (nameOf (itemAt k))) 20) items tt (rowOf x) (row-lt x)))
 
 pub laws : Laws
 laws =

@@ -12,4 +12,4 @@ pub record Laws : Type 0 where
   pub found : (x : Item) → itemIn (rowOf x) ≡ Is x
   pub past : (k : ℕ) → items ≤ k → itemIn k ≡ Nothing
   pub apart : (x y : Item) → nameOf x ≡ nameOf y → x ≡ y
-  pub room : (x : Item) → length (nameOf x) ≡ 16
+  pub room : (x : Item) → length (nameOf x) ≡ 20

@@ -51,10 +51,10 @@ pub fn name_of(item: Item) -> [u8; NAME]
     ensures { λ r. ⌜ r ≡ nameOf item ⌝ }
 {
     let names: &[u8] =
-        b"Parallel        Multiplexer1    Multiplexer2    Multiplexer3    ErrorCode       DirectionStop   \
-        DirectionStart  EnergyStop      EnergyStart     LastInvalidCode IelEnable       ReducedCounter  \
-        Bias            Relay           Ground          StopStepping    StopLimit       StopLevel       \
-        Flap1           Flap2           Flap3           IelClock        LastCheck       InvalidCount    \
-        HeadMask        LongCounter     FreeTime        ";
+        b"Parallel            Multiplexer1        Multiplexer2        Multiplexer3        ErrorCode           DirectionStop       \
+        DirectionStart      EnergyStop          EnergyStart         LastInvalidCode     IelEnable           ReducedCounter      \
+        Bias                Relay               Ground              StopStepping        StopLimit           StopLevel           \
+        Flap1               Flap2               Flap3               IelClock            LastCheck           InvalidCount        \
+        HeadMask            LongCounter         FreeTime            ";
     names::name_in(names, frame::row_of(item))
 }

@@ -53,15 +53,15 @@ pub words-in : (row : ℕ) → row < rows → wordsOf (nameOf row) ≡ nameWords
 unfolding nameOf nameWords
 words-in row h =
     each (λ (k : ℕ). wordsOf (nameOf k) ≡ nameWords k) rows
-    (((((((((((((tt, padded 0 8 tt), padded 1 7 tt), padded 2 6 tt), padded 3 3 tt), padded 4 7 tt), padded 5 5 tt), padded 6 6 tt), padded 7 12 tt), padded 8 3 tt), padded 9 13 tt), padded 10 4 tt), padded 11 0 tt), padded 12 3 tt) row h
+    (((((((((((((tt, padded 0 12 tt), padded 1 11 tt), padded 2 10 tt), padded 3 7 tt), padded 4 11 tt), padded 5 9 tt), padded 6 10 tt), padded 7 16 tt), padded 8 7 tt), padded 9 17 tt), padded 10 8 tt), padded 11 4 tt), padded 12 7 tt) row h
 
--- a name takes sixteen bytes
-room : (row : ℕ) → length (nameOf row) ≡ 16
+-- a name takes twenty bytes
+room : (row : ℕ) → length (nameOf row) ≡ 20
 unfolding nameOf
-room row = let n = length-append (spoken (nameWords row)) (replicate 16 space) in simp length-take (omega (arith, n))
+room row = let n = length-append (spoken (nameWords row)) (replicate 20 space) in simp length-take (omega (arith, n))
 
 -- past the last row there is no name
-past : (row : ℕ) → rows ≤ row → nameOf row ≡ replicate 16 space
+past : (row : ℕ) → rows ≤ row → nameOf row ≡ replicate 20 space
 unfolding nameOf nameWords
 past row h = let n : row ≡ 13 + (row - 13) = omega arith in rw n (rw (getD-append-add names [] (row - 13) []))
 
@@ -69,13 +69,13 @@ pub no-name : (row : ℕ) → rows ≤ row → nameWords row ≡ []
 unfolding nameWords
 no-name row h = let n : row ≡ 13 + (row - 13) = omega arith in rw n (getD-append-add names [] (row - 13) [])
 
--- the words of a row's sixteen bytes, past the last row too
+-- the words of a row's twenty bytes, past the last row too
 pub words-at : (row : ℕ) → wordsOf (nameOf row) ≡ nameWords row
 words-at row =
     split (ltb row rows) (λ e. words-in row (ltb-true row rows e))
     (λ e.
     let h = ltb-false row rows e in
-    ap wordsOf (past row h) ∙ padded-back [] 16 tt ∙ sym (no-name row h))
+    ap wordsOf (past row h) ∙ padded-back [] 20 tt ∙ sym (no-name row h))
 
 pub at-most-two : (row : ℕ) → length (nameWords row) ≤ 2
 unfolding nameWords

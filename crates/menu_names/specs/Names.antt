@@ -35,9 +35,9 @@ names =
 unfoldable pub nameWords : ℕ → List (List ℕ)
 nameWords row = getD names row []
 
--- the name in 16 bytes: its words with one space between, and blanks behind
+-- the name in 20 bytes: its words with one space between, and blanks behind
 unfoldable pub nameOf : ℕ → List ℕ
-nameOf row = take 16 (spoken (nameWords row) ++ replicate 16 space)
+nameOf row = take 20 (spoken (nameWords row) ++ replicate 20 space)
 
 -- Two words name a row of one word by the first, and one of two words by both.
 abbrev pub called : List (List ℕ) → List ℕ → List ℕ → Bool

@@ -14,9 +14,9 @@ pub fn name_of(row: usize) -> [u8; NAME]
     ensures { λ r. ⌜ r ≡ nameOf row ⌝ }
 {
     let names: &[u8] =
-        b"relay on        relay off       relay both      relay neither   head mask       \
-        stop target     stop limit      mode            stop stepping   iel             \
-        multiplexers    direction windowenergy window   ";
+        b"relay on            relay off           relay both          relay neither       head mask           \
+        stop target         stop limit          mode                stop stepping       iel                 \
+        multiplexers        direction window    energy window       ";
     names::name_in(names, row)
 }
 

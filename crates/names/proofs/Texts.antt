@@ -1,4 +1,4 @@
--- Names of 16 bytes each, one after the other: the one in row k is cut out of the text; and no two rows have one name.
+-- Names of 20 bytes each, one after the other: the one in row k is cut out of the text; and no two rows have one name.
 -- Assumes nothing.
 use mathlib.Core.Path.{_≡_, refl, sym, ap, _∙_}
 use mathlib.Core.Bool.{Bool, true, false, true≢false, _||_, not}
@@ -35,7 +35,7 @@ alike-self [] = refl
 alike-self (x ∷ xs) = rw (eq-eqb x x refl) (alike-self xs)
 
 -- a row of the text has its name
-in-row : (names : List ℕ) (k : ℕ) → k < length names / 16 → nameIn names k ≡ take 16 (drop (16 * k) names)
+in-row : (names : List ℕ) (k : ℕ) → k < length names / 20 → nameIn names k ≡ take 20 (drop (20 * k) names)
 unfolding nameIn
 in-row names k h = rw (lt-ltb _ _ h)
 
@@ -45,17 +45,17 @@ module _ {A : Type 0} (name : A → List ℕ) where
   text [] = []
   text (x ∷ xs) = name x ++ text xs
 
-  in-text : ((x : A) → length (name x) ≡ 16) → (xs : List A) (d : A) (k : ℕ) → k < length xs → take 16 (drop (16 * k) (text xs)) ≡ name (getD xs k d)
+  in-text : ((x : A) → length (name x) ≡ 20) → (xs : List A) (d : A) (k : ℕ) → k < length xs → take 20 (drop (20 * k) (text xs)) ≡ name (getD xs k d)
   in-text room [] d k h = absurd (not-suc-le-zero h)
-  in-text room (x ∷ xs) d zero h = take-at (name x) (text xs) 16 (room x)
+  in-text room (x ∷ xs) d zero h = take-at (name x) (text xs) 20 (room x)
   in-text room (x ∷ xs) d (suc k) h =
-      let n : 16 * suc k ≡ 16 + 16 * k = omega arith in
-      ap (λ (m : ℕ). take 16 (drop m (name x ++ text xs))) n
-      ∙ ap (take 16) (sym (drop-drop (16 * k) 16 (name x ++ text xs)))
-      ∙ ap (λ (t : List ℕ). take 16 (drop (16 * k) t)) (drop-at (name x) (text xs) 16 (room x))
+      let n : 20 * suc k ≡ 20 + 20 * k = omega arith in
+      ap (λ (m : ℕ). take 20 (drop m (name x ++ text xs))) n
+      ∙ ap (take 20) (sym (drop-drop (20 * k) 20 (name x ++ text xs)))
+      ∙ ap (λ (t : List ℕ). take 20 (drop (20 * k) t)) (drop-at (name x) (text xs) 20 (room x))
       ∙ in-text room xs d k (le-of-suc-le-suc h)
 
-  length-text : ((x : A) → length (name x) ≡ 16) → (xs : List A) → length (text xs) ≡ 16 * length xs
+  length-text : ((x : A) → length (name x) ≡ 20) → (xs : List A) → length (text xs) ≡ 20 * length xs
   length-text room [] = refl
   length-text room (x ∷ xs) =
       let n = length-append (name x) (text xs) in
@@ -64,7 +64,7 @@ module _ {A : Type 0} (name : A → List ℕ) where
       omega (arith, n, h, r)
 
   -- the name in the row of x, which is k
-  pub named : ((x : A) → length (name x) ≡ 16) → (xs : List A) (d x : A) (i k : ℕ) → k ≡ i → i < length xs → getD xs i d ≡ x → nameIn (text xs) k ≡ name x
+  pub named : ((x : A) → length (name x) ≡ 20) → (xs : List A) (d x : A) (i k : ℕ) → k ≡ i → i < length xs → getD xs i d ≡ x → nameIn (text xs) k ≡ name x
   named room xs d x i k e h f =
       let n = length-text room xs in
       rw e (in-row (text xs) i (omega (arith, h, n)) ∙ in-text room xs d i h ∙ ap name f)

@@ -1,4 +1,4 @@
--- The name in a row of a text of names, 16 bytes each, with blanks behind it; past the last row blanks alone.
+-- The name in a row of a text of names, 20 bytes each, with blanks behind it; past the last row blanks alone.
 -- Assumes nothing.
 use mathlib.Core.List.{List}
 use Prim.Native.Nat.{ℕ, _*_, _/_}
@@ -7,4 +7,4 @@ use lib.ListN.{length, take, drop, replicate}
 use Rattle.base.specs.Pick.{pick}
 
 unfoldable pub nameIn : List ℕ → ℕ → List ℕ
-nameIn names row = pick (ltb row (length names / 16)) (take 16 (drop (16 * row) names)) (replicate 16 0x20)
+nameIn names row = pick (ltb row (length names / 20)) (take 20 (drop (20 * row) names)) (replicate 20 0x20)

@@ -6,11 +6,11 @@ ghost use lib.ListN.{length, take, drop};
 ghost use Rattle.names.specs.Names.{nameIn};
 
 // Room for every name.
-pub const NAME: usize = 16;
+pub const NAME: usize = 20;
 
 fn cut(names: &[u8], row: usize) -> [u8; NAME]
-    requires { ⌜ 16 * row + 16 ≤ length (now names) ⌝ }
-    ensures { λ r. ⌜ r ≡ take 16 (drop (16 * row) (now (names .entry))) ⌝ }
+    requires { ⌜ 20 * row + 20 ≤ length (now names) ⌝ }
+    ensures { λ r. ⌜ r ≡ take 20 (drop (20 * row) (now (names .entry))) ⌝ }
 {
     let at = NAME * row;
     let end = at + NAME;

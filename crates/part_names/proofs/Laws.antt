@@ -20,8 +20,8 @@ partAt k = getD parts k Marker
 pub part-lt : (p : Part) → rowOf p < 19
 part-lt p = ltb→lt _ _ (every-part (λ q. ltb (rowOf q) 19) tt p)
 
-pub room : (p : Part) → length (partName p) ≡ 16
-room p = eqb→eq _ _ (every-part (λ q. eqb (length (partName q)) 16) tt p)
+pub room : (p : Part) → length (partName p) ≡ 20
+room p = eqb→eq _ _ (every-part (λ q. eqb (length (partName q)) 20) tt p)
 
 pub laws : Laws
 laws =

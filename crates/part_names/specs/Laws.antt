@@ -12,4 +12,4 @@ pub record Laws : Type 0 where
   pub found : (p : Part) → partIn (rowOf p) ≡ Is p
   pub past : (n : ℕ) → length parts ≤ n → partIn n ≡ Nothing
   pub apart : (p q : Part) → partName p ≡ partName q → p ≡ q
-  pub room : (p : Part) → length (partName p) ≡ 16
+  pub room : (p : Part) → length (partName p) ≡ 20

@@ -46,9 +46,9 @@ pub fn part_name(part: Part) -> [u8; NAME]
     ensures { λ r. ⌜ r ≡ partName part ⌝ }
 {
     let names: &[u8] =
-        b"marker          index           descriptor1     calibration     m-signs         SGL0            \
-        direct-events   H-SPCT          I-SPCT          SGL1            SGL2            SGL3            \
-        I-PAD           I-3DD           MTRX            descriptor2     E-PAD           E-3DD           \
-        m               ";
+        b"marker              index               descriptor1         calibration         m-signs             SGL0                \
+        direct-events       H-SPCT              I-SPCT              SGL1                SGL2                SGL3                \
+        I-PAD               I-3DD               MTRX                descriptor2         E-PAD               E-3DD               \
+        m                   ";
     names::name_in(names, placing::row_of(part))
 }

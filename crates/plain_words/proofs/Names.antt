@@ -31,18 +31,18 @@ two-words (w ∷ []) h k = absurd (omega arith)
 two-words (w ∷ v ∷ []) h k = refl
 two-words (w ∷ v ∷ x ∷ ws) h k = absurd (omega arith)
 
--- a name takes sixteen bytes at most
-pub name-short : (row : ℕ) → length (spoken (nameWords row)) ≤ 16
+-- a name takes twenty bytes at most
+pub name-short : (row : ℕ) → length (spoken (nameWords row)) ≤ 20
 unfolding nameWords
 name-short row =
     split (ltb row rows)
     (λ e.
-    each (λ (k : ℕ). length (spoken (nameWords k)) ≤ 16) rows
+    each (λ (k : ℕ). length (spoken (nameWords k)) ≤ 20) rows
     (((((((((((((tt, omega arith), omega arith), omega arith), omega arith), omega arith), omega arith), omega arith), omega arith), omega arith), omega arith), omega arith), omega arith), omega arith)
     row (ltb-true row rows e))
     (λ e. rw (no-name row (ltb-false row rows e)) (omega arith))
 
--- a word of the sixteen bytes is a word of the name
+-- a word of the twenty bytes is a word of the name
 pub word-of-name : (row k : ℕ) (name : List ℕ) → name ≡ nameOf row → getD (wordsOf name) k [] ≡ getD (nameWords row) k []
 word-of-name row k name e = ap (λ (x : List ℕ). getD (wordsOf x) k []) e ∙ ap (λ (ws : List (List ℕ)). getD ws k []) (words-at row)
 

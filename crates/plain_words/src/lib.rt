@@ -10,13 +10,13 @@ ghost use Rattle.menu_names.specs.Names.{nameWords};
 ghost use Rattle.plain_words.specs.Plain.{settingsSaid, plainOf};
 use wording::Command;
 
-// How long a command in plain words gets at most: its name 16, each setting 4 with the space before it.
-pub const PLAIN: usize = 24;
+// How long a command in plain words gets at most: its name 20, each setting 4 with the space before it.
+pub const PLAIN: usize = 28;
 
 // The name of a row: one word, or two with a space between.
 fn put_name(row: usize, page: &mut [u8], at: usize) -> usize
-    requires { ⌜ at + 16 ≤ length (now page) ⌝ }
-    ensures { λ r. ⌜ Puts at (spoken (nameWords row)) (now (page .entry)) r (now (page .exit)) × (r ≤ at + 16) ⌝ }
+    requires { ⌜ at + 20 ≤ length (now page) ⌝ }
+    ensures { λ r. ⌜ Puts at (spoken (nameWords row)) (now (page .entry)) r (now (page .exit)) × (r ≤ at + 20) ⌝ }
 {
     let name = menu_names::name_of(row);
     let words = menu_names::words_in(row);
@@ -52,8 +52,8 @@ fn put_settings(wanted: usize, a: u8, b: u8, page: &mut [u8], at: usize) -> usiz
 }
 
 fn put_entry(c: Command, page: &mut [u8], at: usize) -> usize
-    requires { ⌜ at + 24 ≤ length (now page) ⌝ }
-    ensures { λ r. ⌜ Puts at (plainOf c) (now (page .entry)) r (now (page .exit)) × (r ≤ at + 24) ⌝ }
+    requires { ⌜ at + 28 ≤ length (now page) ⌝ }
+    ensures { λ r. ⌜ Puts at (plainOf c) (now (page .entry)) r (now (page .exit)) × (r ≤ at + 28) ⌝ }
 {
     let entry = menu_rows::entry_of(c);
     let row = entry.row;
@@ -66,7 +66,7 @@ fn put_entry(c: Command, page: &mut [u8], at: usize) -> usize
 
 // A command in plain words. Where the page has no room for the longest, nothing is put.
 pub fn put_plain(c: Command, page: &mut [u8], at: usize) -> usize
-    ensures { λ r. ⌜ Puts at (fitting 24 at (now (page .entry)) (plainOf c)) (now (page .entry)) r (now (page .exit)) × (r ≤ at + 24) ⌝ }
+    ensures { λ r. ⌜ Puts at (fitting 28 at (now (page .entry)) (plainOf c)) (now (page .entry)) r (now (page .exit)) × (r ≤ at + 28) ⌝ }
 {
     if base::has_room(at, PLAIN, page.len()) {
         return put_entry(c, page, at);

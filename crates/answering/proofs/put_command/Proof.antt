@@ -13,7 +13,7 @@ returns c =
     let p = q .before .before .before .before .before in
     let b = p .before .before .before in
     let e = p .put-plain .ensures in
-    let plain = fits 24 0 (omega (arith, b .pre)) (e .0) in
+    let plain = fits 28 0 (omega (arith, b .pre)) (e .0) in
     let end = fits 1 (p .put-plain .result) (omega (arith, b .pre, e .1)) (q .put .ensures) in
     (chain plain end (omega (arith, b .pre, plain .place, e .1)), omega (arith, end .place, e .1))
 

@@ -1,4 +1,4 @@
--- `menu_names::words_in` meets its contract: the words of the sixteen bytes are the name's.
+-- `menu_names::words_in` meets its contract: the words of the twenty bytes are the name's.
 -- Assumes nothing.
 use mathlib.Core.Path.{_≡_, sym, ap, _∙_}
 use mathlib.Core.List.{List}
