@@ -90,12 +90,12 @@ fn bytes_of(words: &[u16]) -> Vec<u8> {
 /// Words as a class sends them: settings, targets and limits, and whole blocks with the right check.
 fn class_words(n: usize) -> Vec<u8> {
     let mut random = Random(7);
-    let mut words = vec![0x0802, 0x2D01, 0x290A];
+    let mut words = vec![0x0802, 0x2D01, 0x290A, 0x2C01, 0x210C, 0x2201, 0x2409];
     while words.len() < n {
         let low = random.next() as u8;
         match random.next() % 8 {
-            0 => words.push(0x2800 | u16::from(low % 16)),
-            1 => words.push(0x2900 | u16::from(low % 16)),
+            0 => words.push([0x2800, 0x2000, 0x2300][usize::from(low / 16 % 3)] | u16::from(low % 16)),
+            1 => words.push([0x2900, 0x2100, 0x2400][usize::from(low / 16 % 3)] | u16::from(low % 16)),
             2 => words.push(0x0C00 | u16::from(low % 4)),
             3 => words.push(0x2600 | u16::from(low % 8)),
             4 => words.push(0x2B00 | u16::from(low % 2)),
@@ -111,10 +111,10 @@ fn class_words(n: usize) -> Vec<u8> {
     bytes_of(&words[..n])
 }
 
-/// Relay and stepping on, a limit and a target, a window, and one refusal.
-const SETUP: [u16; 13] = [
-    0x0802, 0x2D01, 0x290F, 0x280D, 0x0C03, 0x2605, 0x0822, 0x6302, 0xA303, 0xA313, 0xE346, 0x2B01,
-    0x280D,
+/// Relay and stepping on, a limit and a target of each supply, a window, and one refusal.
+const SETUP: [u16; 18] = [
+    0x0802, 0x2D01, 0x290F, 0x280D, 0x2C01, 0x210C, 0x200B, 0x2201, 0x2409, 0x2307, 0x0C03, 0x2605,
+    0x0822, 0x6302, 0xA303, 0xA313, 0xE346, 0x2B01,
 ];
 
 fn set_up(words: &[u8]) -> Rig {
@@ -250,7 +250,7 @@ fn slots<const BY_TABLE: bool>(input: &[u8], _out: &mut [u8], n: usize) -> u64 {
         ErrorCode,
         DirectionStop,
         EnergyStop,
-        Level,
+        StopLevel,
         Ground,
         HeadMask,
         LongCounter,

@@ -1,4 +1,4 @@
-//! The desk: slots in, items with their ages out. From the scope paper's "The 40-byte frame".
+//! The desk: slots in, items with their ages out. From the scope paper's "The 40-byte frame" and 02 (iv).
 //! A frame is read in two ways: straight, which is the yardstick, and by a table of places, which is a second one.
 
 /// The items, in the order of their rows.
@@ -19,9 +19,9 @@ pub enum Item {
     Bias,
     Relay,
     Ground,
-    Stepping,
-    Limit,
-    Level,
+    StopStepping,
+    StopLimit,
+    StopLevel,
     Flap1,
     Flap2,
     Flap3,
@@ -31,9 +31,15 @@ pub enum Item {
     HeadMask,
     LongCounter,
     FreeTime,
+    StartStepping,
+    StartLimit,
+    StartLevel,
+    DeflectionStepping,
+    DeflectionLimit,
+    DeflectionLevel,
 }
 
-const ITEMS: usize = Item::FreeTime as usize + 1;
+const ITEMS: usize = Item::DeflectionLevel as usize + 1;
 
 #[derive(Clone, Copy)]
 pub struct Shown {
@@ -131,10 +137,23 @@ impl Desk {
         self.set(Item::ReducedCounter, f[20] & 0x3F);
         self.set(Item::Bias, f[36]);
         match i % 4 {
-            0 => self.set(Item::Stepping, f[37] >> 4 & 1),
-            2 => self.set(Item::Limit, f[37] >> 4),
-            3 => self.set(Item::Level, f[37] >> 4),
-            _ => {}
+            0 => {
+                self.set(Item::StopStepping, f[37] >> 4 & 1);
+                self.set(Item::StartStepping, f[37] >> 5 & 1);
+                self.set(Item::DeflectionStepping, f[37] >> 6 & 1);
+            }
+            1 => {
+                self.set(Item::DeflectionLimit, f[37] >> 4);
+                self.set(Item::DeflectionLevel, f[37] & 0x0F);
+            }
+            2 => {
+                self.set(Item::StopLimit, f[37] >> 4);
+                self.set(Item::StartLimit, f[37] & 0x0F);
+            }
+            _ => {
+                self.set(Item::StopLevel, f[37] >> 4);
+                self.set(Item::StartLevel, f[37] & 0x0F);
+            }
         }
         if i % 8 == 0 {
             self.set(Item::Ground, f[38]);
@@ -206,7 +225,7 @@ const fn place(item: Item, byte: usize, shift: u8, mask: u8, period: u8, phase: 
     }
 }
 
-static PLACES: [Place; 25] = [
+static PLACES: [Place; 31] = [
     place(Item::Parallel, 1, 6, 0x01, 1, 0),
     place(Item::Multiplexer1, 6, 0, 0x01, 1, 0),
     place(Item::Multiplexer2, 6, 3, 0x01, 1, 0),
@@ -222,9 +241,9 @@ static PLACES: [Place; 25] = [
     place(Item::Bias, 36, 0, 0xFF, 1, 0),
     place(Item::Relay, 2, 6, 0x01, 1, 0),
     place(Item::Ground, 38, 0, 0xFF, 8, 0),
-    place(Item::Stepping, 37, 4, 0x01, 4, 0),
-    place(Item::Limit, 37, 4, 0x0F, 4, 2),
-    place(Item::Level, 37, 4, 0x0F, 4, 3),
+    place(Item::StopStepping, 37, 4, 0x01, 4, 0),
+    place(Item::StopLimit, 37, 4, 0x0F, 4, 2),
+    place(Item::StopLevel, 37, 4, 0x0F, 4, 3),
     place(Item::Flap1, 39, 4, 0x01, 32, 12),
     place(Item::Flap2, 39, 5, 0x01, 32, 12),
     place(Item::Flap3, 39, 6, 0x01, 32, 12),
@@ -232,4 +251,10 @@ static PLACES: [Place; 25] = [
     place(Item::LastCheck, 39, 0, 0xFF, 32, 21),
     place(Item::InvalidCount, 39, 0, 0xFF, 32, 22),
     place(Item::HeadMask, 39, 4, 0x07, 32, 31),
+    place(Item::StartStepping, 37, 5, 0x01, 4, 0),
+    place(Item::StartLimit, 37, 0, 0x0F, 4, 2),
+    place(Item::StartLevel, 37, 0, 0x0F, 4, 3),
+    place(Item::DeflectionStepping, 37, 6, 0x01, 4, 0),
+    place(Item::DeflectionLimit, 37, 4, 0x0F, 4, 1),
+    place(Item::DeflectionLevel, 37, 0, 0x0F, 4, 1),
 ];

@@ -1,5 +1,5 @@
-//! The rig: command words in, frames out. From the scope paper's "Command words", "Spins and power" and "The 40-byte frame", and 02 (ii), the register.
-//! State is changed in place.
+//! The rig: command words in, frames out. From the scope paper's "Command words", "Spins and power" and "The 40-byte frame"; 02 (ii), the register; 02 (iv),
+//! three supplies. State is changed in place.
 
 use crate::crc::check_of;
 
@@ -41,13 +41,55 @@ pub enum Reply {
     Dropped(Answer),
 }
 
+/// One of the three supplies. The relay is common, and the rig's.
 #[derive(Default)]
 struct Supply {
-    relay: bool,
     stepping: bool,
     level: u8,
     target: u8,
     limit: u8,
+}
+
+impl Supply {
+    fn spin(&mut self, relay: bool) {
+        if relay && self.stepping {
+            if self.level < self.target {
+                self.level += 1;
+            } else if self.level > self.target {
+                self.level -= 1;
+            }
+        }
+    }
+
+    fn off(&mut self) {
+        self.level = 0;
+        self.target = 0;
+    }
+
+    fn set_target(&mut self, relay: bool, low: u8) -> Result<(), Refusal> {
+        let target = low & 0x0F;
+        if !relay {
+            return Err(Refusal::RelayOff);
+        }
+        if !self.stepping {
+            return Err(Refusal::SteppingOff);
+        }
+        if target > self.limit {
+            return Err(Refusal::OverLimit);
+        }
+        self.target = target;
+        Ok(())
+    }
+
+    /// A limit over 15 is 0Dh, but four bits never are.
+    fn set_limit(&mut self, low: u8) -> Result<(), Refusal> {
+        if self.level != self.target {
+            return Err(Refusal::StillStepping);
+        }
+        self.limit = low & 0x0F;
+        self.target = self.target.min(self.limit);
+        Ok(())
+    }
 }
 
 #[derive(Clone, Copy, Default)]
@@ -82,7 +124,10 @@ struct Pending {
 }
 
 pub struct Rig {
-    supply: Supply,
+    relay: bool,
+    stop: Supply,
+    start: Supply,
+    deflection: Supply,
     parallel: bool,
     head_mask: u8,
     iel_clock: bool,
@@ -110,7 +155,10 @@ impl Rig {
     /// The start, to which a power cut returns.
     pub fn start() -> Rig {
         Rig {
-            supply: Supply::default(),
+            relay: false,
+            stop: Supply::default(),
+            start: Supply::default(),
+            deflection: Supply::default(),
             parallel: false,
             head_mask: 7,
             iel_clock: false,
@@ -133,7 +181,7 @@ impl Rig {
     }
 
     pub fn level(&self) -> u8 {
-        self.supply.level
+        self.stop.level
     }
 
     pub fn long_counter(&self) -> u32 {
@@ -141,14 +189,9 @@ impl Rig {
     }
 
     pub fn spin(&mut self) {
-        let s = &mut self.supply;
-        if s.relay && s.stepping {
-            if s.level < s.target {
-                s.level += 1;
-            } else if s.level > s.target {
-                s.level -= 1;
-            }
-        }
+        self.stop.spin(self.relay);
+        self.start.spin(self.relay);
+        self.deflection.spin(self.relay);
         self.register = self.ordered;
         self.long_counter = self.long_counter.wrapping_add(1);
     }
@@ -227,14 +270,14 @@ impl Rig {
     }
 
     fn single(&mut self, code: u8, low: u8) -> Result<(), Refusal> {
-        let s = &mut self.supply;
         match code {
             0x08 => match (low & 0x02 != 0, low & 0x20 != 0) {
-                (true, false) => s.relay = true,
+                (true, false) => self.relay = true,
                 (false, true) => {
-                    s.relay = false;
-                    s.level = 0;
-                    s.target = 0;
+                    self.relay = false;
+                    self.stop.off();
+                    self.start.off();
+                    self.deflection.off();
                 }
                 _ => return Err(Refusal::Malformed),
             },
@@ -242,30 +285,17 @@ impl Rig {
                 self.iel_clock = low & 0x01 != 0;
                 self.iel_enable = low & 0x02 != 0;
             }
+            0x20 => self.start.set_target(self.relay, low)?,
+            0x21 => self.start.set_limit(low)?,
+            0x22 => self.deflection.stepping = switch(low)?,
+            0x23 => self.deflection.set_target(self.relay, low)?,
+            0x24 => self.deflection.set_limit(low)?,
             0x26 => self.head_mask = low & 0x07,
-            0x28 => {
-                let target = low & 0x0F;
-                if !s.relay {
-                    return Err(Refusal::RelayOff);
-                }
-                if !s.stepping {
-                    return Err(Refusal::SteppingOff);
-                }
-                if target > s.limit {
-                    return Err(Refusal::OverLimit);
-                }
-                s.target = target;
-            }
-            0x29 => {
-                // A limit over 15 is 0Dh, but four bits never are.
-                if s.level != s.target {
-                    return Err(Refusal::StillStepping);
-                }
-                s.limit = low & 0x0F;
-                s.target = s.target.min(s.limit);
-            }
+            0x28 => self.stop.set_target(self.relay, low)?,
+            0x29 => self.stop.set_limit(low)?,
             0x2B => self.parallel = switch(low)?,
-            0x2D => s.stepping = switch(low)?,
+            0x2C => self.start.stepping = switch(low)?,
+            0x2D => self.stop.stepping = switch(low)?,
             _ => return Err(Refusal::UnknownCode),
         }
         Ok(())
@@ -296,12 +326,12 @@ impl Rig {
             27 => self.latch = u32::from(self.free_time),
             _ => {}
         }
-        let s = &self.supply;
+        let (stop, start, deflection) = (&self.stop, &self.start, &self.deflection);
         let sensor = &self.register;
         *f = [0; 40];
         f[0] = i;
         f[1] = u8::from(self.parallel) << 6;
-        f[2] = u8::from(s.relay) << 6;
+        f[2] = u8::from(self.relay) << 6;
         f[6] = sensor.multiplexers.0 & 0x49;
         f[7] = self.error << 4;
         f[8] = sensor.direction.stop >> 1;
@@ -312,10 +342,14 @@ impl Rig {
         f[20] = self.long_counter.wrapping_sub(1) as u8 & 0x3F;
         f[36] = self.bias;
         f[37] = match i % 4 {
-            0 => u8::from(s.stepping) << 4,
-            2 => s.limit << 4,
-            3 => s.level << 4,
-            _ => 0,
+            0 => {
+                u8::from(stop.stepping) << 4
+                    | u8::from(start.stepping) << 5
+                    | u8::from(deflection.stepping) << 6
+            }
+            1 => deflection.limit << 4 | deflection.level,
+            2 => stop.limit << 4 | start.limit,
+            _ => stop.level << 4 | start.level,
         };
         if i % 8 == 0 {
             f[38] = self.ground;

@@ -25,10 +25,10 @@ at-most-four : (c : Command) → length (wordsOf c) ≤ 4
 at-most-four (Relay on off) = omega arith
 at-most-four (Iel clock enable) = omega arith
 at-most-four (HeadMask mask) = omega arith
-at-most-four (Target target) = omega arith
-at-most-four (Limit limit) = omega arith
+at-most-four (Target x target) = omega arith
+at-most-four (Limit x limit) = omega arith
 at-most-four (Mode low) = omega arith
-at-most-four (Stepping low) = omega arith
+at-most-four (Stepping x low) = omega arith
 at-most-four (Multiplexers byte bit) = omega arith
 at-most-four (DirectionWindow start stop) = omega arith
 at-most-four (EnergyWindow start stop) = omega arith

@@ -21,7 +21,7 @@ use Rattle.wording.specs.declared.Command.the-variants.{Relay, Iel, HeadMask, T
 use Rattle.wording.specs.declared.Meant.the-variants.{Is}
 use Rattle.wording.specs.Written.{fits, wordsOf, block}
 use Rattle.wording.specs.Meaning.{readOf}
-use Rattle.wording.proofs.Sent.{fits-one, fits-two, check-fits}
+use Rattle.wording.proofs.Sent.{codes, fits-one, fits-two, check-fits}
 use Rattle.wording.proofs.Laws.{laws}
 use Rattle.asking.specs.declared.Asked.the-variants.{Means}
 use Rattle.asking.specs.Asks.{values, allWords, meantOf, hexOf, askOf, HexBack}
@@ -38,10 +38,10 @@ sixteen : (c : Command) → fits c ≡ true → Sixteen (wordsOf c)
 sixteen (Relay on off) f = let h = fits-two on 2 off 2 f in (omega arith, tt)
 sixteen (Iel clock enable) f = let h = fits-two clock 2 enable 2 f in (omega arith, tt)
 sixteen (HeadMask mask) f = let h = fits-one mask 8 f in (omega arith, tt)
-sixteen (Target target) f = let h = fits-one target 16 f in (omega arith, tt)
-sixteen (Limit limit) f = let h = fits-one limit 16 f in (omega arith, tt)
+sixteen (Target x target) f = let h = fits-one target 16 f in (omega (arith, codes x .0), tt)
+sixteen (Limit x limit) f = let h = fits-one limit 16 f in (omega (arith, codes x .1), tt)
 sixteen (Mode low) f = let h = fits-one low 256 f in (omega arith, tt)
-sixteen (Stepping low) f = let h = fits-one low 256 f in (omega arith, tt)
+sixteen (Stepping x low) f = let h = fits-one low 256 f in (omega (arith, codes x .2), tt)
 sixteen (Multiplexers byte bit) f = let h = fits-two byte 256 bit 2 f in block-sixteen 0x20 byte bit (omega arith) (h .0) (omega arith)
 sixteen (DirectionWindow start stop) f = let h = fits-two start 32 stop 32 f in block-sixteen 0x23 start stop (omega arith) (omega arith) (omega arith)
 sixteen (EnergyWindow start stop) f = let h = fits-two start 32 stop 32 f in block-sixteen 0x24 start stop (omega arith) (omega arith) (omega arith)
@@ -76,10 +76,10 @@ some-word : (c : Command) → 0 < length (wordsOf c)
 some-word (Relay on off) = omega arith
 some-word (Iel clock enable) = omega arith
 some-word (HeadMask mask) = omega arith
-some-word (Target target) = omega arith
-some-word (Limit limit) = omega arith
+some-word (Target x target) = omega arith
+some-word (Limit x limit) = omega arith
 some-word (Mode low) = omega arith
-some-word (Stepping low) = omega arith
+some-word (Stepping x low) = omega arith
 some-word (Multiplexers byte bit) = omega arith
 some-word (DirectionWindow start stop) = omega arith
 some-word (EnergyWindow start stop) = omega arith

@@ -4,6 +4,8 @@ use mathlib.Core.Path.{_≡_, refl}
 use mathlib.Core.List.{List, [], _∷_}
 use Prim.Native.Nat.{ℕ}
 use Rattle.base.specs.Ascii.{ascii}
+use Rattle.judge.specs.declared.Which.{Which}
+use Rattle.judge.specs.declared.Which.the-variants.{Stop, Start, Deflection}
 use Rattle.wording.specs.declared.Command.{Command}
 use Rattle.wording.specs.declared.Command.the-variants.{Relay, Iel, HeadMask, Target, Limit, Mode, Stepping, Multiplexers, DirectionWindow, EnergyWindow}
 use Rattle.numerals.specs.Letters.{digitOf}
@@ -27,11 +29,18 @@ pub relay : two (ascii "relay") (ascii "on") (Relay 1 0) × two (ascii "relay") 
 unfolding askOf findOf seek nameWords orderOf made digitOf
 relay = (refl, refl, refl, refl)
 
-pub one-setting : three (ascii "head") (ascii "mask") (ascii "5") (HeadMask 5) × three (ascii "stop") (ascii "target") (ascii "5") (Target 5)
-    × three (ascii "stop") (ascii "limit") (ascii "5") (Limit 5) × two (ascii "mode") (ascii "5") (Mode 5)
-    × three (ascii "stop") (ascii "stepping") (ascii "5") (Stepping 5)
+pub one-setting : three (ascii "head") (ascii "mask") (ascii "5") (HeadMask 5) × two (ascii "mode") (ascii "5") (Mode 5)
 unfolding askOf findOf seek nameWords orderOf made digitOf
-one-setting = (refl, refl, refl, refl, refl)
+one-setting = (refl, refl)
+
+-- the three rows of a supply, by its name
+abbrev ofSupply : List ℕ → Which → Type 0
+ofSupply name x =
+    three name (ascii "target") (ascii "5") (Target x 5) × three name (ascii "limit") (ascii "5") (Limit x 5) × three name (ascii "stepping") (ascii "5") (Stepping x 5)
+
+pub supplies : ofSupply (ascii "stop") Stop × ofSupply (ascii "start") Start × ofSupply (ascii "deflection") Deflection
+unfolding askOf findOf seek nameWords orderOf made digitOf
+supplies = ((refl, refl, refl), (refl, refl, refl), (refl, refl, refl))
 
 pub two-settings : three (ascii "iel") (ascii "1") (ascii "0") (Iel 1 0) × three (ascii "multiplexers") (ascii "1") (ascii "0") (Multiplexers 1 0)
     × four (ascii "direction") (ascii "window") (ascii "1") (ascii "0") (DirectionWindow 1 0)

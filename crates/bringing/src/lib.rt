@@ -85,5 +85,11 @@ pub fn cells_after(old: [Cell; ITEMS], frame: &[u8], half: Half, i: u8, b: u8) -
         plain_cell(old, Item::HeadMask, frame),
         spread_cell(old, Item::LongCounter, half, i, b, 3, Frames(3)),
         spread_cell(old, Item::FreeTime, half, i, b, 28, Frames(1)),
+        plain_cell(old, Item::StartStepping, frame),
+        plain_cell(old, Item::StartLimit, frame),
+        plain_cell(old, Item::StartLevel, frame),
+        plain_cell(old, Item::DeflectionStepping, frame),
+        plain_cell(old, Item::DeflectionLimit, frame),
+        plain_cell(old, Item::DeflectionLevel, frame),
     ]
 }

@@ -1,5 +1,5 @@
 // The 40 bytes composed from what is held and from the latch.
-// Keeps 01 "The 40-byte frame". What stands in each byte is said in crate `frame`; crate `writing` puts the bytes into the caller's buffer.
+// Keeps 01 "The 40-byte frame" and 02 (iv). What stands in each byte is said in crate `frame`; crate `writing` puts the bytes into the caller's buffer.
 ghost use mathlib.Core.Path.{_≡_};
 ghost use Prim.Native.Nat.{_%_};
 ghost use Rattle.frame.specs.Write.{quarterOf, groundAt, muxOf, frameOf};
@@ -17,9 +17,12 @@ fn byte_37(held: Held, index: u8) -> u8
 {
     let i = index % 4;
     match i {
-        0 => held.stopstepping % 2 * 0x10,
-        2 => held.stoplimit % 16 * 0x10,
-        3 => held.stoplevel % 16 * 0x10,
+        0 => held.stopstepping % 2 * 0x10
+            + held.startstepping % 2 * 0x20
+            + held.deflectionstepping % 2 * 0x40,
+        1 => held.deflectionlimit % 16 * 0x10 + held.deflectionlevel % 16,
+        2 => held.stoplimit % 16 * 0x10 + held.startlimit % 16,
+        3 => held.stoplevel % 16 * 0x10 + held.startlevel % 16,
         _ => 0,
     }
 }

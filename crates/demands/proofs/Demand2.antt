@@ -11,6 +11,7 @@ use Rattle.frame.proofs.Laws.{laws as frame-laws}
 use Rattle.laws.proofs.Rows.{row-laws}
 use Rattle.laws.proofs.Blocks.{block-laws}
 use Rattle.laws.proofs.Parts.{parts}
+use Rattle.laws.proofs.Supplies.{supply-words}
 use Rattle.laws.proofs.Runs.{run-laws}
 use Rattle.laws.proofs.Register.{register-laws}
 use Rattle.block.proofs.Cover.{cover}
@@ -41,6 +42,7 @@ demand-2 =
       parts = parts;
       start = refl;
       supply = supply-laws;
+      supplies = supply-words;
       runs = run-laws;
       frame = λ r. refl;
       shown = shows;

@@ -1,16 +1,18 @@
 -- Each fraud is caught: a rig by one word, a desk by one run after which it shows something else than ours.
 -- Assumes nothing.
 use mathlib.Core.Path.{_≡_, refl, _∙_, ap, subst}
+use mathlib.Core.Bool.{true}
 use mathlib.Core.List.{List, [], _∷_, _++_}
 use Prim.Native.Nat.{ℕ, _%_}
 use native.Mathlib.Omega.{arith}
 use lib.ListN.{getD, replicate}
 use Rattle.crc.specs.Crc.{shift, crcFrom, crcOf}
+use Rattle.judge.specs.declared.Which.the-variants.{Deflection}
 use Rattle.judge.specs.declared.Sensor.{Sensor}
 use Rattle.judge.specs.declared.Verdict.{Verdict}
 use Rattle.judge.specs.declared.Refusal.the-variants.{StrayWord}
 use Rattle.judge.specs.Commands.{countedOf, blockOf}
-use Rattle.judge.specs.Records.{withSettings, withSensor, withDirection}
+use Rattle.judge.specs.Records.{withSupply, withSettings, withSensor, withDirection}
 use Rattle.frame.specs.declared.Item.the-variants.{Bias}
 use Rattle.frame.specs.declared.Reading.{Reading}
 use Rattle.frame.specs.declared.Reading.the-variants.{Nothing, Value}
@@ -42,7 +44,7 @@ use Rattle.demands.specs.Demand1.{Demand1For}
 use Rattle.demands.specs.Demand2.{Demand2For}
 use Rattle.demands.specs.Demand3.{Demand3For}
 use Rattle.demands.specs.One.{rigOf}
-use Rattle.demands.specs.Frauds.{Refusing, RefusesEverything, AnswersAlike, idler, blanker, hoarder, pretender, flatterer, uncounted, snob, hasty, relayed, Caught}
+use Rattle.demands.specs.Frauds.{Refusing, RefusesEverything, AnswersAlike, idler, blanker, hoarder, pretender, flatterer, uncounted, snob, hasty, relayed, Caught, undeflected}
 use Rattle.demands.proofs.One.{one-desk}
 
 -- a head mask is accepted, and a stray data word refused
@@ -93,6 +95,13 @@ asked = withCore startRig (withSettings startCore (withSensor (startCore .settin
 
 not-relayed : Demand2For relayed → ⊥
 not-relayed d = let e : _≡_ {A = ℕ} 0 1 = ap (λ (x : Sensor). x .direction .start) (d .register .copied asked .0) in omega arith
+
+-- a rig with relay, deflection's stepping and its target on, and a spin
+abbrev aimed : Rig
+aimed = withCore startRig (withSupply startCore Deflection (record { relay = true; stepping = true; level = 0; target = 1; limit = 1 }))
+
+not-undeflected : Demand2For undeflected → ⊥
+not-undeflected d = let e : _≡_ {A = ℕ} 0 1 = d .runs .spin aimed .supply Deflection .up refl refl (omega arith) in omega arith
 
 abbrev valueOf : Shown → ℕ
 valueOf Unknown = 0
@@ -184,6 +193,7 @@ caught =
       counts = not-uncounted;
       soon = not-hasty;
       late = not-relayed;
+      forgets = not-undeflected;
       nothing = not-idler;
       blanks = not-blanker;
       holds = not-hoarder;

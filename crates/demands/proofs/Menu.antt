@@ -47,10 +47,10 @@ fit-wide : (c : Command) → fits c ≡ not (wide c)
 fit-wide (Relay on off) = two on 1 off 1
 fit-wide (Iel clock enable) = two clock 1 enable 1
 fit-wide (HeadMask mask) = one mask 7
-fit-wide (Target target) = one target 15
-fit-wide (Limit limit) = one limit 15
+fit-wide (Target x target) = one target 15
+fit-wide (Limit x limit) = one limit 15
 fit-wide (Mode low) = one low 255
-fit-wide (Stepping low) = one low 255
+fit-wide (Stepping x low) = one low 255
 fit-wide (Multiplexers byte bit) = two byte 255 bit 1
 fit-wide (DirectionWindow start stop) = two start 31 stop 31
 fit-wide (EnergyWindow start stop) = two start 31 stop 31
@@ -59,10 +59,10 @@ need-words : (c : Command) → length (wordsOf c) ≡ need c
 need-words (Relay on off) = refl
 need-words (Iel clock enable) = refl
 need-words (HeadMask mask) = refl
-need-words (Target target) = refl
-need-words (Limit limit) = refl
+need-words (Target x target) = refl
+need-words (Limit x limit) = refl
 need-words (Mode low) = refl
-need-words (Stepping low) = refl
+need-words (Stepping x low) = refl
 need-words (Multiplexers byte bit) = refl
 need-words (DirectionWindow start stop) = refl
 need-words (EnergyWindow start stop) = refl

@@ -31,7 +31,10 @@ use Rattle.desk.specs.declared.Received.{Received}
 use Rattle.desk.specs.Laws.{answered}
 use Rattle.judge.specs.declared.Sensor.{Sensor}
 use Rattle.judge.specs.declared.Settings.{Settings}
+use Rattle.judge.specs.declared.Which.{Which}
+use Rattle.judge.specs.declared.Which.the-variants.{Stop, Start, Deflection}
 use Rattle.judge.specs.declared.Core.{Core}
+use Rattle.judge.specs.Records.{supplyAt}
 use Rattle.rig.specs.declared.Faults.{Faults}
 use Rattle.rig.specs.declared.Pending.{Pending}
 use Rattle.rig.specs.declared.Panel.{Panel}
@@ -39,7 +42,7 @@ use Rattle.rig.specs.declared.Sending.{Sending}
 use Rattle.rig.specs.declared.Rig.{Rig}
 use Rattle.rig.specs.Words.{takeOf}
 use Rattle.power.specs.declared.PanelSetting.{PanelSetting}
-use Rattle.power.specs.Power.{spunOf, setOf}
+use Rattle.power.specs.Power.{steppedAll, spunOf, setOf}
 use Rattle.sending.specs.Sending.{sent}
 use Rattle.laws.specs.Runs.{Spun, SetMoves, SentMoves}
 use Rattle.laws.proofs.Runs.{panel-is}
@@ -142,28 +145,41 @@ level-is s n m =
     (λ t. let e : stepped s ≡ s = rw (r, t) refl in m .still (inr (inl t)) ∙ sym e))
     (λ r. let e : stepped s ≡ s = rw r refl in m .still (inl r) ∙ sym e)
 
--- a rig is its parts
-made : Supply → Settings → Sensor → Faults → Pending → ℕ → Panel → Sending → Spins → Rig
-made a b x c d e f g h = record { core = record { stop = a; settings = b }; register = x; faults = c; pending = d; check = e; panel = f; sending = g; edbs = h }
+-- a core is its parts,
+cored : Supply → Supply → Supply → Settings → Core
+cored a b c d = record { stop = a; start = b; deflection = c; settings = d }
 
-same-made : {a i : Supply} {b j : Settings} {x y : Sensor} {c k : Faults} {d l : Pending} {e m : ℕ} {f n : Panel} {g o : Sending} {h p : Spins}
-    → a ≡ i → b ≡ j → x ≡ y → c ≡ k → d ≡ l → e ≡ m → f ≡ n → g ≡ o → h ≡ p → made a b x c d e f g h ≡ made i j y k l m n o p
-same-made q r z s t u v w x = cc
+same-cored : {a i b j c k : Supply} {d l : Settings} → a ≡ i → b ≡ j → c ≡ k → d ≡ l → cored a b c d ≡ cored i j k l
+same-cored p q r s = cc
 
-parts-are : (r q : Rig) → q .core .stop ≡ r .core .stop → q .core .settings ≡ r .core .settings → q .register ≡ r .register → q .faults ≡ r .faults → q .pending ≡ r .pending
+core-is : (c d : Core) → c .stop ≡ d .stop → c .start ≡ d .start → c .deflection ≡ d .deflection → c .settings ≡ d .settings → c ≡ d
+unfolding cored
+core-is c d p q r s = same-cored p q r s
+
+-- and a rig is
+made : Core → Sensor → Faults → Pending → ℕ → Panel → Sending → Spins → Rig
+made a x c d e f g h = record { core = a; register = x; faults = c; pending = d; check = e; panel = f; sending = g; edbs = h }
+
+same-made : {a i : Core} {x y : Sensor} {c k : Faults} {d l : Pending} {e m : ℕ} {f n : Panel} {g o : Sending} {h p : Spins}
+    → a ≡ i → x ≡ y → c ≡ k → d ≡ l → e ≡ m → f ≡ n → g ≡ o → h ≡ p → made a x c d e f g h ≡ made i y k l m n o p
+same-made q z s t u v w x = cc
+
+parts-are : (r q : Rig) → q .core ≡ r .core → q .register ≡ r .register → q .faults ≡ r .faults → q .pending ≡ r .pending
     → q .check ≡ r .check → q .panel ≡ r .panel → q .sending ≡ r .sending → q .edbs ≡ r .edbs → q ≡ r
 unfolding made
-parts-are r q a b x c d e f g h = same-made a b x c d e f g h
+parts-are r q a x c d e f g h = same-made a x c d e f g h
 
 spin-is : (r q : Rig) → Spun r q → q ≡ spunOf r
 spin-is r q m =
-    parts-are (spunOf r) q (level-is (r .core .stop) (q .core .stop) (m .stop)) (m .settings) (m .register) (m .faults) (m .pending) (m .check) (m .panel) (m .sending) (m .edbs)
+    let level : (x : Which) → supplyAt (q .core) x ≡ stepped (supplyAt (r .core) x) = λ x. level-is (supplyAt (r .core) x) (supplyAt (q .core) x) (m .supply x) in
+    parts-are (spunOf r) q (core-is (q .core) (steppedAll (r .core)) (level Stop) (level Start) (level Deflection) (m .settings)) (m .register) (m .faults) (m .pending) (m .check)
+    (m .panel) (m .sending) (m .edbs)
 
 set-is : (r : Rig) (s : PanelSetting) (q : Rig) → SetMoves r s q → q ≡ setOf r s
 unfolding setOf
 set-is r s q m =
     let k = m .kept in
-    parts-are (setOf r s) q (ap (λ (c : Core). c .stop) (k .core)) (ap (λ (c : Core). c .settings) (k .core)) (k .register) (k .faults) (k .pending) (k .check)
+    parts-are (setOf r s) q (k .core) (k .register) (k .faults) (k .pending) (k .check)
     (m .panel ∙ sym (panel-is (r .panel) s)) (m .sending) (k .edbs)
 
 sends : ℕ → ℕ → Sending
@@ -176,7 +192,7 @@ sent-is : (r q : Rig) → SentMoves r q → q ≡ sent r
 unfolding sends
 sent-is r q m =
     let k = m .kept in
-    parts-are (sent r) q (ap (λ (c : Core). c .stop) (k .core)) (ap (λ (c : Core). c .settings) (k .core)) (k .register) (k .faults) (k .pending) (k .check)
+    parts-are (sent r) q (k .core) (k .register) (k .faults) (k .pending) (k .check)
     (m .panel) (same-sends (m .next) (m .latch)) (k .edbs)
 
 pub one-rig : OneRig

@@ -19,6 +19,7 @@ use Rattle.rig.specs.declared.Rig.{Rig}
 use Rattle.rig.specs.Start.{startRig}
 use Rattle.sending.specs.Sending.{heldOf}
 use Rattle.laws.specs.Rows.{RowLaws}
+use Rattle.laws.specs.Supplies.{SupplyWords}
 use Rattle.laws.specs.Blocks.{BlockLaws}
 use Rattle.laws.specs.Parts.{Parts}
 use Rattle.laws.specs.Runs.{Happening, rigReached, RunLaws}
@@ -56,8 +57,10 @@ pub record Demand2For (o : Outfit) : Type 0 where
   pub parts : Parts
   -- the start, as 01 lists it
   pub start : o .rig .start ≡ startRig
-  -- one supply: its commands, its spins, how far they bring the level
+  -- any supply: its commands, its spins, how far they bring the level
   pub supply : SupplyLaws
+  -- the three: a command to one changes neither of the others, the relay is common and off brings all three to 0
+  pub supplies : SupplyWords (o .rig .take)
   -- over every run: counts, codes, last check, long EDB counter, the bounds of every field; and for every rig, what a setting, a frame built,
   -- a spin and a power cut do
   pub runs : RunLaws (o .rig)

@@ -25,7 +25,9 @@ use Rattle.rig.specs.declared.Answer.the-variants as answer
 use Rattle.rig.specs.declared.Reply.{Reply}
 use Rattle.rig.specs.declared.Reply.the-variants.{Plain, Swallowed, Dropped}
 use Rattle.rig.specs.declared.Taken.{Taken}
-use Rattle.rig.specs.Records.{withRegister, withFaults}
+use Rattle.judge.specs.declared.Which.the-variants.{Deflection}
+use Rattle.judge.specs.Records.{withSupply}
+use Rattle.rig.specs.Records.{withCore, withRegister, withFaults}
 use Rattle.rig.specs.Words.{takeOf}
 use Rattle.rig.specs.Start.{startRig}
 use Rattle.power.specs.Power.{spunOf, setOf, cutOf}
@@ -133,6 +135,13 @@ copiesIfOn r = withRegister (spunOf r) (pick (r .core .stop .relay) (r .core .se
 abbrev pub relayed : Outfit
 relayed = machineOf (record { start = startRig; take = takeOf; spin = copiesIfOn; set = setOf; cut = cutOf; sent = sent }) nextFrame filledOf
 
+-- 9. a rig whose spin leaves deflection
+abbrev pub forgetsDeflection : Rig → Rig
+forgetsDeflection r = withCore (spunOf r) (withSupply (spunOf r .core) Deflection (r .core .deflection))
+
+abbrev pub undeflected : Outfit
+undeflected = machineOf (record { start = startRig; take = takeOf; spin = forgetsDeflection; set = setOf; cut = cutOf; sent = sent }) nextFrame filledOf
+
 -- which demand catches each
 pub record Caught : Type 0 where
   -- demand 2
@@ -141,6 +150,7 @@ pub record Caught : Type 0 where
   pub counts : Demand2For (rigOf uncounted) → ⊥
   pub soon : Demand2For hasty → ⊥
   pub late : Demand2For relayed → ⊥
+  pub forgets : Demand2For undeflected → ⊥
   -- demand 3: the 35 slots
   pub nothing : Demand3For idler → ⊥
   -- demand 3: the latest is shown

@@ -1,6 +1,6 @@
 -- What the rig holds of each item and where a frame has it, as a table: from the start, these steps give these items these values, every item not named
 -- is as at the start, and the frames built then have these bytes.
--- Keeps 01 "Command words", "Spins and power" and the items of "The 40-byte frame"; 02 (ii), the register. Assumes nothing.
+-- Keeps 01 "Command words", "Spins and power" and the items of "The 40-byte frame"; 02 (ii), the register; 02 (iv), three supplies. Assumes nothing.
 use mathlib.Core.Path.{_≡_}
 use mathlib.Core.Bool.{Bool, true, false, not, _&&_, _||_}
 use mathlib.Core.List.{List, [], _∷_, _++_}
@@ -9,7 +9,7 @@ use lib.Dec.{eqb}
 use lib.ListN.{getD, replicate}
 use Rattle.base.specs.Pick.{pick}
 use Rattle.frame.specs.declared.Item.{Item}
-use Rattle.frame.specs.declared.Item.the-variants.{Parallel, Multiplexer1, Multiplexer2, Multiplexer3, ErrorCode, DirectionStop, DirectionStart, EnergyStop, EnergyStart, LastInvalidCode, IelEnable, ReducedCounter, Bias, Relay, Ground, StopStepping, StopLimit, StopLevel, Flap1, Flap2, Flap3, IelClock, LastCheck, InvalidCount, HeadMask, LongCounter, FreeTime}
+use Rattle.frame.specs.declared.Item.the-variants.{Parallel, Multiplexer1, Multiplexer2, Multiplexer3, ErrorCode, DirectionStop, DirectionStart, EnergyStop, EnergyStart, LastInvalidCode, IelEnable, ReducedCounter, Bias, Relay, Ground, StopStepping, StopLimit, StopLevel, Flap1, Flap2, Flap3, IelClock, LastCheck, InvalidCount, HeadMask, LongCounter, FreeTime, StartStepping, StartLimit, StartLevel, DeflectionStepping, DeflectionLimit, DeflectionLevel}
 use Rattle.frame.specs.Items.{rowOf}
 use Rattle.power.specs.declared.PanelSetting.{PanelSetting}
 use Rattle.power.specs.declared.PanelSetting.the-variants as panel
@@ -52,13 +52,28 @@ otherEnergyBlock = send 0x6402 ∷ send 0xA401 ∷ send 0xA400 ∷ send 0xE415 �
 abbrev pub oneSpin : List (Item × ℕ)
 oneSpin = (LongCounter, 1) ∷ (ReducedCounter, 0) ∷ []
 
+-- limits 15, 12 and 9 of stop, start and deflection, targets 15, 11 and 7, and twelve spins
+abbrev pub allUp : List Do
+allUp =
+    send 0x0802 ∷ send 0x2D01 ∷ send 0x2C01 ∷ send 0x2201 ∷ send 0x290F ∷ send 0x210C ∷ send 0x2409 ∷ send 0x280F ∷ send 0x200B ∷ send 0x2307
+    ∷ replicate 12 spin
+
+abbrev pub limitsAndSwitches : List (Item × ℕ)
+limitsAndSwitches =
+    (StopStepping, 1) ∷ (StartStepping, 1) ∷ (DeflectionStepping, 1) ∷ (StopLimit, 15) ∷ (StartLimit, 12) ∷ (DeflectionLimit, 9)
+    ∷ (LongCounter, 12) ∷ (ReducedCounter, 11) ∷ []
+
 abbrev pub table : List Row
 table =
-    -- singles: serial/parallel, relay, stepping, limit, IEL clock, IEL enable, head mask
+    -- singles: serial/parallel, relay, stepping and limit of each supply, IEL clock, IEL enable, head mask
     row (send 0x2B01 ∷ []) ((Parallel, 1) ∷ []) ((0, (1, 0x40)) ∷ [])
     ∷ row (send 0x0802 ∷ []) ((Relay, 1) ∷ []) ((0, (2, 0x40)) ∷ [])
     ∷ row (send 0x2D01 ∷ []) ((StopStepping, 1) ∷ []) ((0, (37, 0x10)) ∷ [])
     ∷ row (send 0x290A ∷ []) ((StopLimit, 10) ∷ []) ((2, (37, 0xA0)) ∷ [])
+    ∷ row (send 0x2C01 ∷ []) ((StartStepping, 1) ∷ []) ((0, (37, 0x20)) ∷ [])
+    ∷ row (send 0x2109 ∷ []) ((StartLimit, 9) ∷ []) ((2, (37, 0x09)) ∷ [])
+    ∷ row (send 0x2201 ∷ []) ((DeflectionStepping, 1) ∷ []) ((0, (37, 0x40)) ∷ [])
+    ∷ row (send 0x240B ∷ []) ((DeflectionLimit, 11) ∷ []) ((1, (37, 0xB0)) ∷ [])
     ∷ row (send 0x0C01 ∷ []) ((IelClock, 1) ∷ []) ((12, (39, 0x80)) ∷ [])
     ∷ row (send 0x0C02 ∷ []) ((IelEnable, 1) ∷ []) ((0, (19, 0x80)) ∷ [])
     ∷ row (send 0x2605 ∷ []) ((HeadMask, 5) ∷ []) ((31, (39, 0x50)) ∷ [])
@@ -81,9 +96,14 @@ table =
     ∷ row (set (panel.Flap1 true) ∷ []) ((Flap1, 1) ∷ []) ((12, (39, 0x10)) ∷ [])
     ∷ row (set (panel.Flap2 true) ∷ []) ((Flap2, 1) ∷ []) ((12, (39, 0x20)) ∷ [])
     ∷ row (set (panel.Flap3 true) ∷ []) ((Flap3, 1) ∷ []) ((12, (39, 0x40)) ∷ [])
-    -- spins; and those that bring the level to the target 15
+    -- spins; those that bring stop's level to its target, and start's and deflection's on the way
     ∷ row (replicate 300 spin) ((LongCounter, 300) ∷ (ReducedCounter, 43) ∷ []) ((0, (20, 43)) ∷ (1, (39, 0)) ∷ (2, (39, 1)) ∷ (3, (39, 44)) ∷ [])
     ∷ row (send 0x0802 ∷ send 0x2D01 ∷ send 0x290F ∷ send 0x280F ∷ replicate 15 spin) ((Relay, 1) ∷ (StopStepping, 1) ∷ (StopLimit, 15) ∷ (StopLevel, 15) ∷ (LongCounter, 15) ∷ (ReducedCounter, 14) ∷ []) ((2, (37, 0xF0)) ∷ (3, (37, 0xF0)) ∷ [])
+    ∷ row (send 0x0802 ∷ send 0x2C01 ∷ send 0x210E ∷ send 0x200D ∷ replicate 9 spin) ((Relay, 1) ∷ (StartStepping, 1) ∷ (StartLimit, 14) ∷ (StartLevel, 9) ∷ (LongCounter, 9) ∷ (ReducedCounter, 8) ∷ []) ((2, (37, 0x0E)) ∷ (3, (37, 0x09)) ∷ [])
+    ∷ row (send 0x0802 ∷ send 0x2201 ∷ send 0x240C ∷ send 0x2305 ∷ replicate 3 spin) ((Relay, 1) ∷ (DeflectionStepping, 1) ∷ (DeflectionLimit, 12) ∷ (DeflectionLevel, 3) ∷ (LongCounter, 3) ∷ (ReducedCounter, 2) ∷ []) ((1, (37, 0xC3)) ∷ [])
+    -- all three at once, and then the relay off: the levels go to 0, limits and switches stay
+    ∷ row allUp ((Relay, 1) ∷ (StopLevel, 12) ∷ (StartLevel, 11) ∷ (DeflectionLevel, 7) ∷ limitsAndSwitches) ((0, (37, 0x70)) ∷ (1, (37, 0x97)) ∷ (2, (37, 0xFC)) ∷ (3, (37, 0xCB)) ∷ [])
+    ∷ row (allUp ++ (send 0x0820 ∷ [])) limitsAndSwitches ((0, (2, 0x00)) ∷ (0, (37, 0x70)) ∷ (1, (37, 0x90)) ∷ (2, (37, 0xFC)) ∷ (3, (37, 0x00)) ∷ [])
     ∷ []
 
 -- at the start: all 0, but these three

@@ -78,10 +78,10 @@ abbrev pub wide : Command → Bool
 wide (Relay on off) = ltb 1 on || ltb 1 off
 wide (Iel clock enable) = ltb 1 clock || ltb 1 enable
 wide (HeadMask mask) = ltb 7 mask
-wide (Target target) = ltb 15 target
-wide (Limit limit) = ltb 15 limit
+wide (Target x target) = ltb 15 target
+wide (Limit x limit) = ltb 15 limit
 wide (Mode low) = ltb 255 low
-wide (Stepping low) = ltb 255 low
+wide (Stepping x low) = ltb 255 low
 wide (Multiplexers byte bit) = ltb 255 byte || ltb 1 bit
 wide (DirectionWindow start stop) = ltb 31 start || ltb 31 stop
 wide (EnergyWindow start stop) = ltb 31 start || ltb 31 stop
@@ -91,10 +91,10 @@ abbrev pub need : Command → ℕ
 need (Relay on off) = 1
 need (Iel clock enable) = 1
 need (HeadMask mask) = 1
-need (Target target) = 1
-need (Limit limit) = 1
+need (Target x target) = 1
+need (Limit x limit) = 1
 need (Mode low) = 1
-need (Stepping low) = 1
+need (Stepping x low) = 1
 need (Multiplexers byte bit) = 4
 need (DirectionWindow start stop) = 4
 need (EnergyWindow start stop) = 4

@@ -6,7 +6,7 @@ use mathlib.Core.List.{List, [], _∷_, _++_}
 use Prim.Native.Nat.{ℕ, _+_, _/_, _%_, _<_}
 use lib.ListN.{getD}
 use Rattle.frame.specs.declared.Item.{Item}
-use Rattle.frame.specs.declared.Item.the-variants.{Parallel, Multiplexer1, Multiplexer2, Multiplexer3, ErrorCode, DirectionStop, DirectionStart, EnergyStop, EnergyStart, LastInvalidCode, IelEnable, ReducedCounter, Bias, Relay, Ground, StopStepping, StopLimit, StopLevel, Flap1, Flap2, Flap3, IelClock, LastCheck, InvalidCount, HeadMask}
+use Rattle.frame.specs.declared.Item.the-variants.{Parallel, Multiplexer1, Multiplexer2, Multiplexer3, ErrorCode, DirectionStop, DirectionStart, EnergyStop, EnergyStart, LastInvalidCode, IelEnable, ReducedCounter, Bias, Relay, Ground, StopStepping, StopLimit, StopLevel, Flap1, Flap2, Flap3, IelClock, LastCheck, InvalidCount, HeadMask, StartStepping, StartLimit, StartLevel, DeflectionStepping, DeflectionLimit, DeflectionLevel}
 use Rattle.frame.specs.declared.Reading.the-variants.{Value}
 use Rattle.frame.specs.Items.{rowOf}
 use Rattle.frame.specs.Read.{isPlain, carries, readOf}
@@ -29,6 +29,8 @@ abbrev pub atOnce : Rig → List (Item × ℕ)
 atOnce r =
     let settings = r .core .settings in
     let stop = r .core .stop in
+    let start = r .core .start in
+    let deflection = r .core .deflection in
     (Parallel, bit (settings .parallel))
     ∷ (IelClock, bit (settings .iel .clock))
     ∷ (IelEnable, bit (settings .iel .enable))
@@ -37,6 +39,12 @@ atOnce r =
     ∷ (StopStepping, bit (stop .stepping))
     ∷ (StopLimit, stop .limit)
     ∷ (StopLevel, stop .level)
+    ∷ (StartStepping, bit (start .stepping))
+    ∷ (StartLimit, start .limit)
+    ∷ (StartLevel, start .level)
+    ∷ (DeflectionStepping, bit (deflection .stepping))
+    ∷ (DeflectionLimit, deflection .limit)
+    ∷ (DeflectionLevel, deflection .level)
     ∷ (ErrorCode, r .faults .error)
     ∷ (LastInvalidCode, r .faults .last)
     ∷ (InvalidCount, r .faults .count)

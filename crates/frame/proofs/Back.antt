@@ -46,4 +46,10 @@ module _ (h : Held) (i l : ℕ) where
       & (λ p e. rw e (omega arith))
       & spread
       & spread
+      & (λ p e. rw e (omega arith))
+      & (λ p e. rw e (omega arith))
+      & (λ p e. rw e (omega arith))
+      & (λ p e. rw e (omega arith))
+      & (λ p e. rw e (omega arith))
+      & (λ p e. rw e (omega arith))
       & end)

@@ -12,7 +12,7 @@ use Rattle.base.proofs.Cases.{split}
 use Rattle.base.proofs.Table.{below, is-true}
 use Rattle.frame.proofs.Each.{From, each}
 use Rattle.frame.specs.declared.Item.{Item}
-use Rattle.frame.specs.declared.Item.the-variants.{Parallel, Multiplexer1, Multiplexer2, Multiplexer3, ErrorCode, DirectionStop, DirectionStart, EnergyStop, EnergyStart, LastInvalidCode, IelEnable, ReducedCounter, Bias, Relay, Ground, StopStepping, StopLimit, StopLevel, Flap1, Flap2, Flap3, IelClock, LastCheck, InvalidCount, HeadMask, LongCounter, FreeTime}
+use Rattle.frame.specs.declared.Item.the-variants.{Parallel, Multiplexer1, Multiplexer2, Multiplexer3, ErrorCode, DirectionStop, DirectionStart, EnergyStop, EnergyStart, LastInvalidCode, IelEnable, ReducedCounter, Bias, Relay, Ground, StopStepping, StopLimit, StopLevel, Flap1, Flap2, Flap3, IelClock, LastCheck, InvalidCount, HeadMask, LongCounter, FreeTime, StartStepping, StartLimit, StartLevel, DeflectionStepping, DeflectionLimit, DeflectionLevel}
 use Rattle.frame.specs.Items.{items, rowOf, allItems}
 use Rattle.frame.specs.Read.{byteOf, divOf, remOf, periodOf, bornOf, isPlain}
 
@@ -96,6 +96,12 @@ item-test InvalidCount = (tt, refl)
 item-test HeadMask = (tt, refl)
 item-test LongCounter = (tt, refl)
 item-test FreeTime = (tt, refl)
+item-test StartStepping = (tt, refl)
+item-test StartLimit = (tt, refl)
+item-test StartLevel = (tt, refl)
+item-test DeflectionStepping = (tt, refl)
+item-test DeflectionLimit = (tt, refl)
+item-test DeflectionLevel = (tt, refl)
 
 pub item-at : (x : Item) → itemAt (rowOf x) ≡ x
 item-at x = item-test x .1

@@ -12,7 +12,7 @@ use borrow.Author.Tests.{ne-eqb, eqb-true, eqb-false}
 use Rattle.base.specs.Pick.{pick}
 use Rattle.frame.specs.declared.Held.{Held}
 use Rattle.frame.specs.declared.Arrived.the-variants.{Whole}
-use Rattle.frame.specs.declared.Item.the-variants.{Parallel, Multiplexer1, Multiplexer2, Multiplexer3, ErrorCode, DirectionStop, DirectionStart, EnergyStop, EnergyStart, LastInvalidCode, IelEnable, ReducedCounter, Bias, Relay, Ground, StopStepping, StopLimit, StopLevel, Flap1, Flap2, Flap3, IelClock, LastCheck, InvalidCount, HeadMask}
+use Rattle.frame.specs.declared.Item.the-variants.{Parallel, Multiplexer1, Multiplexer2, Multiplexer3, ErrorCode, DirectionStop, DirectionStart, EnergyStop, EnergyStart, LastInvalidCode, IelEnable, ReducedCounter, Bias, Relay, Ground, StopStepping, StopLimit, StopLevel, Flap1, Flap2, Flap3, IelClock, LastCheck, InvalidCount, HeadMask, StartStepping, StartLimit, StartLevel, DeflectionStepping, DeflectionLimit, DeflectionLevel}
 use Rattle.frame.specs.Items.{rowOf, heldAt}
 use Rattle.frame.specs.Write.{quarterOf, groundAt, muxOf, frameOf, latchOf}
 use Rattle.frame.specs.Read.{periodOf, phaseOf, isPlain, carries, allAre, arrivedOf}
@@ -32,9 +32,12 @@ module _ (h g : Held) (i l : ℕ) where
     quarter-same : quarterOf h (i % 4) ≡ quarterOf g (i % 4)
     unfolding quarterOf isPlain
     quarter-same =
-        pick-same (eqb (i % 4) 0) (λ e. rw (a (rowOf StopStepping) refl (eqb-true _ _ e)))
-        (λ n. pick-same (eqb (i % 4) 2) (λ e. rw (a (rowOf StopLimit) refl (eqb-true _ _ e)))
-        (λ n. pick-same (eqb (i % 4) 3) (λ e. rw (a (rowOf StopLevel) refl (eqb-true _ _ e))) (λ n. refl)))
+        pick-same (eqb (i % 4) 0)
+        (λ e. let q = eqb-true _ _ e in rw (a (rowOf StopStepping) refl q, a (rowOf StartStepping) refl q, a (rowOf DeflectionStepping) refl q))
+        (λ n. pick-same (eqb (i % 4) 1)
+        (λ e. let q = eqb-true _ _ e in rw (a (rowOf DeflectionLimit) refl q, a (rowOf DeflectionLevel) refl q))
+        (λ n. pick-same (eqb (i % 4) 2) (λ e. let q = eqb-true _ _ e in rw (a (rowOf StopLimit) refl q, a (rowOf StartLimit) refl q))
+        (λ n. pick-same (eqb (i % 4) 3) (λ e. let q = eqb-true _ _ e in rw (a (rowOf StopLevel) refl q, a (rowOf StartLevel) refl q)) (λ n. refl))))
 
     ground-same : groundAt h (i % 8) ≡ groundAt g (i % 8)
     unfolding groundAt isPlain

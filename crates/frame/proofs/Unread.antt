@@ -83,6 +83,12 @@ module _ (f g : List ℕ) (a : Alike f g) where
       & (λ r e. let p = part 39 0x70 4 3 (at 31 e) refl in omega arith)
       & spread
       & spread
+      & (λ r e. let p = part 37 (mask37 0) 5 1 (rw e) refl in omega arith)
+      & (λ r e. let p = part 37 (mask37 2) 0 4 (rw e) refl in omega arith)
+      & (λ r e. let p = part 37 (mask37 3) 0 4 (rw e) refl in omega arith)
+      & (λ r e. let p = part 37 (mask37 0) 6 1 (rw e) refl in omega arith)
+      & (λ r e. let p = part 37 (mask37 1) 4 4 (rw e) refl in omega arith)
+      & (λ r e. let p = part 37 (mask37 1) 0 4 (rw e) refl in omega arith)
       & end)
 
   pub read-same : (k : ℕ) → readOf f k ≡ readOf g k

@@ -35,15 +35,14 @@ field : (m n d : ℕ) → T (allBelow (λ v. eqb (bitAnd (v * d) m) (v * d)) n) 
 field m n d t v h = one-of m n (λ v. v * d) t v (v * d) h refl
 
 module _ (h : Held) (i l : ℕ) (fits : Fits h) where
+  steps : Under 0x70 (h .stopstepping % 2 * 0x10 + h .startstepping % 2 * 0x20 + h .deflectionstepping % 2 * 0x40)
+  steps =
+      one-of 0x70 8 (λ v. v * 0x10) tt (h .stopstepping % 2 + 2 * (h .startstepping % 2) + 4 * (h .deflectionstepping % 2)) _ (omega arith) (omega arith)
+
   quarter : (j : ℕ) → j < 4 → Under (mask37 j) (quarterOf h j)
   unfolding quarterOf
   quarter =
-      each (λ j. Under (mask37 j) (quarterOf h j)) 4 (
-      field 0x10 2 0x10 tt (h .stopstepping % 2) (omega arith)
-      & refl
-      & field 0xF0 16 0x10 tt (h .stoplimit % 16) (omega arith)
-      & field 0xF0 16 0x10 tt (h .stoplevel % 16) (omega arith)
-      & end)
+      each (λ j. Under (mask37 j) (quarterOf h j)) 4 (steps & low 8 _ (omega arith) & low 8 _ (omega arith) & low 8 _ (omega arith) & end)
 
   ground : (j : ℕ) → j < 8 → Under (mask38 j) (groundAt h j)
   unfolding groundAt isPlain

@@ -27,7 +27,7 @@ spreads i = pick (ltb i 4) true (pick (eqb i 27) true (eqb i 28))
 
 -- The bits that are read, as 01 masks them: of byte 37, 38 and 39 by the index.
 abbrev pub quarterMask : ℕ → ℕ
-quarterMask j = getD (0x10 ∷ 0x00 ∷ 0xF0 ∷ 0xF0 ∷ []) j 0
+quarterMask j = getD (0x70 ∷ 0xFF ∷ 0xFF ∷ 0xFF ∷ []) j 0
 
 abbrev pub mask37 : ℕ → ℕ
 mask37 i = quarterMask (i % 4)

@@ -73,7 +73,13 @@ rows =
     one 39 0xFF (index 22) ∷  -- invalid count
     one 39 0x70 (index 31) ∷  -- head mask
     (at 39 0xFF (index 0) ∷ at 39 0xFF (index 1) ∷ at 39 0xFF (index 2) ∷ at 39 0xFF (index 3) ∷ []) ∷  -- long EDB counter, high byte first
-    (at 39 0xFF (index 27) ∷ at 39 0xFF (index 28) ∷ []) ∷ []  -- free time, high byte first
+    (at 39 0xFF (index 27) ∷ at 39 0xFF (index 28) ∷ []) ∷  -- free time, high byte first
+    one 37 0x20 (modulo 4 0) ∷  -- start's stepping, ERDSTMCP
+    one 37 0x0F (modulo 4 2) ∷  -- start's limit, ERDSTMVL
+    one 37 0x0F (modulo 4 3) ∷  -- start's level, ERDSTMHC
+    one 37 0x40 (modulo 4 0) ∷  -- deflection's stepping, ERDDHVSE
+    one 37 0xF0 (modulo 4 1) ∷  -- deflection's limit, ERDDPHLD
+    one 37 0x0F (modulo 4 1) ∷ []  -- deflection's level, ERDDPHCL
 
 -- the first and the last place of a row
 abbrev pub firstOf : Row → Place

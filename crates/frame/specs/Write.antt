@@ -1,5 +1,5 @@
 -- The 40 bytes of a frame, byte by byte as 01 "The 40-byte frame" places them, and where in the caller's buffer they go.
--- Level, limit, stepping and relay are where the table of G chapter 4 puts them. Other bits are 0. Assumes nothing.
+-- Level, limit and stepping of the three supplies (02 (iv)) and the relay are where the table of G chapter 4 puts them. Other bits are 0. Assumes nothing.
 use mathlib.Core.List.{List, [], _∷_, _++_}
 use Prim.Native.Nat.{ℕ, _+_, _*_, _/_, _%_}
 use lib.Dec.{eqb, ltb}
@@ -14,12 +14,15 @@ use Rattle.frame.specs.Items.{numbered}
 abbrev pub latchOf : Held → ℕ → ℕ → ℕ
 latchOf h i l = pick (eqb (i % 32) 0) (h .long) (pick (eqb (i % 32) 27) (h .free) l)
 
--- byte 37 by the index modulo 4: 0 (10) stop's stepping, ERDSPMCP; 2 (F0) its limit, ERDSPMVL; 3 (F0) its level, ERDSPMHC
+-- byte 37 by the index modulo 4: 0 (10, 20, 40) stepping of stop, start and deflection, ERDSPMCP, ERDSTMCP, ERDDHVSE;
+-- 1 (F0) deflection's limit, ERDDPHLD, (0F) its level, ERDDPHCL; 2 limits, (F0) stop's, ERDSPMVL, (0F) start's, ERDSTMVL;
+-- 3 levels, (F0) stop's, ERDSPMHC, (0F) start's, ERDSTMHC
 unfoldable pub quarterOf : Held → ℕ → ℕ
 quarterOf h i =
-    pick (eqb i 0) (h .stopstepping % 2 * 0x10)
-    (pick (eqb i 2) (h .stoplimit % 16 * 0x10)
-    (pick (eqb i 3) (h .stoplevel % 16 * 0x10) 0))
+    pick (eqb i 0) (h .stopstepping % 2 * 0x10 + h .startstepping % 2 * 0x20 + h .deflectionstepping % 2 * 0x40)
+    (pick (eqb i 1) (h .deflectionlimit % 16 * 0x10 + h .deflectionlevel % 16)
+    (pick (eqb i 2) (h .stoplimit % 16 * 0x10 + h .startlimit % 16)
+    (pick (eqb i 3) (h .stoplevel % 16 * 0x10 + h .startlevel % 16) 0)))
 
 -- byte 38 by the index modulo 8: 0 ground
 unfoldable pub groundAt : Held → ℕ → ℕ

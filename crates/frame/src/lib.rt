@@ -1,5 +1,5 @@
 // The 40-byte housekeeping frame: what it shows. Crate `writing` writes it, `arriving` tells what arrived in a slot, `reading` reads the items.
-// Keeps 01 "The 40-byte frame"; the numbers 17 and 18.
+// Keeps 01 "The 40-byte frame", and the places of 02 (iv); the numbers 17 and 18.
 ghost use mathlib.Core.Path.{_≡_};
 ghost use Rattle.frame.specs.Items.{rowOf, numberOf};
 
@@ -33,10 +33,16 @@ pub struct Held {
     pub mask: u8,
     pub long: u32,
     pub free: u16,
+    pub startstepping: u8,
+    pub startlimit: u8,
+    pub startlevel: u8,
+    pub deflectionstepping: u8,
+    pub deflectionlimit: u8,
+    pub deflectionlevel: u8,
 }
 
 // How many items there are.
-pub const ITEMS: usize = 27;
+pub const ITEMS: usize = 33;
 
 pub enum Item {
     Parallel,
@@ -66,6 +72,12 @@ pub enum Item {
     HeadMask,
     LongCounter,
     FreeTime,
+    StartStepping,
+    StartLimit,
+    StartLevel,
+    DeflectionStepping,
+    DeflectionLimit,
+    DeflectionLevel,
 }
 
 pub enum Refusal {
@@ -133,5 +145,11 @@ pub fn row_of(item: Item) -> usize
         Item::HeadMask => 24,
         Item::LongCounter => 25,
         Item::FreeTime => 26,
+        Item::StartStepping => 27,
+        Item::StartLimit => 28,
+        Item::StartLevel => 29,
+        Item::DeflectionStepping => 30,
+        Item::DeflectionLimit => 31,
+        Item::DeflectionLevel => 32,
     }
 }

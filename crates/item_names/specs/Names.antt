@@ -1,4 +1,4 @@
--- The name of each item, and the item of each row (01, "The 40-byte frame").
+-- The name of each item, and the item of each row (01, "The 40-byte frame"; 02 (iv)).
 -- Assumes nothing.
 use mathlib.Core.List.{List}
 use Prim.Native.Nat.{ℕ}
@@ -7,7 +7,7 @@ use lib.ListN.{getD}
 use Rattle.base.specs.Ascii.{ascii}
 use Rattle.base.specs.Pick.{pick}
 use Rattle.frame.specs.declared.Item.{Item}
-use Rattle.frame.specs.declared.Item.the-variants.{Parallel, Multiplexer1, Multiplexer2, Multiplexer3, ErrorCode, DirectionStop, DirectionStart, EnergyStop, EnergyStart, LastInvalidCode, IelEnable, ReducedCounter, Bias, Relay, Ground, StopStepping, StopLimit, StopLevel, Flap1, Flap2, Flap3, IelClock, LastCheck, InvalidCount, HeadMask, LongCounter, FreeTime}
+use Rattle.frame.specs.declared.Item.the-variants.{Parallel, Multiplexer1, Multiplexer2, Multiplexer3, ErrorCode, DirectionStop, DirectionStart, EnergyStop, EnergyStart, LastInvalidCode, IelEnable, ReducedCounter, Bias, Relay, Ground, StopStepping, StopLimit, StopLevel, Flap1, Flap2, Flap3, IelClock, LastCheck, InvalidCount, HeadMask, LongCounter, FreeTime, StartStepping, StartLimit, StartLevel, DeflectionStepping, DeflectionLimit, DeflectionLevel}
 use Rattle.frame.specs.Items.{items, allItems}
 use Rattle.item_names.specs.declared.InRow.{InRow}
 use Rattle.item_names.specs.declared.InRow.the-variants.{Nothing, Is}
@@ -40,6 +40,12 @@ nameOf InvalidCount = ascii "InvalidCount        "
 nameOf HeadMask = ascii "HeadMask            "
 nameOf LongCounter = ascii "LongCounter         "
 nameOf FreeTime = ascii "FreeTime            "
+nameOf StartStepping = ascii "StartStepping       "
+nameOf StartLimit = ascii "StartLimit          "
+nameOf StartLevel = ascii "StartLevel          "
+nameOf DeflectionStepping = ascii "DeflectionStepping  "
+nameOf DeflectionLimit = ascii "DeflectionLimit     "
+nameOf DeflectionLevel = ascii "DeflectionLevel     "
 
 -- the item in a row; none past the last
 abbrev pub itemIn : ℕ → InRow

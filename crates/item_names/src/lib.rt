@@ -1,6 +1,7 @@
 // The items of a frame by row and by name, for those who list them or ask for one.
-// Keeps 01 "The 40-byte frame", its items in the order of their rows.
+// Keeps 01 "The 40-byte frame" and 02 (iv), their items in the order of their rows.
 ghost use mathlib.Core.Path.{_≡_};
+ghost use Prim.Native.Nat.{_≤_};
 ghost use Rattle.item_names.specs.Names.{nameOf, itemIn};
 use frame::Item;
 use names::NAME;
@@ -9,6 +10,22 @@ use names::NAME;
 pub enum InRow {
     Nothing,
     Is(Item),
+}
+
+// The rows behind the free time's: start and deflection.
+fn supply_in(row: usize) -> InRow
+    requires { ⌜ 27 ≤ row ⌝ }
+    ensures { λ r. ⌜ r ≡ itemIn row ⌝ }
+{
+    match row {
+        27 => InRow::Is(Item::StartStepping),
+        28 => InRow::Is(Item::StartLimit),
+        29 => InRow::Is(Item::StartLevel),
+        30 => InRow::Is(Item::DeflectionStepping),
+        31 => InRow::Is(Item::DeflectionLimit),
+        32 => InRow::Is(Item::DeflectionLevel),
+        _ => InRow::Nothing,
+    }
 }
 
 pub fn item_in(row: usize) -> InRow
@@ -42,7 +59,7 @@ pub fn item_in(row: usize) -> InRow
         24 => InRow::Is(Item::HeadMask),
         25 => InRow::Is(Item::LongCounter),
         26 => InRow::Is(Item::FreeTime),
-        _ => InRow::Nothing,
+        _ => supply_in(row),
     }
 }
 
@@ -55,6 +72,7 @@ pub fn name_of(item: Item) -> [u8; NAME]
         DirectionStart      EnergyStop          EnergyStart         LastInvalidCode     IelEnable           ReducedCounter      \
         Bias                Relay               Ground              StopStepping        StopLimit           StopLevel           \
         Flap1               Flap2               Flap3               IelClock            LastCheck           InvalidCount        \
-        HeadMask            LongCounter         FreeTime            ";
+        HeadMask            LongCounter         FreeTime            StartStepping       StartLimit          StartLevel          \
+        DeflectionStepping  DeflectionLimit     DeflectionLevel     ";
     names::name_in(names, frame::row_of(item))
 }

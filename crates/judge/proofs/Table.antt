@@ -13,6 +13,9 @@ use Rattle.base.proofs.Table.{allBelow, below}
 use Rattle.supply.specs.declared.Refusal.{Refusal as SupplyRefusal}
 use Rattle.supply.specs.declared.Refusal.the-variants as supply
 use Rattle.supply.specs.Rules.{relayOf, targeted, limited, switched, numberOf as supplyNumberOf}
+use Rattle.supply.specs.declared.Supply.{Supply}
+use Rattle.judge.specs.declared.Which.{Which}
+use Rattle.judge.specs.declared.Which.the-variants.{Stop, Start, Deflection}
 use Rattle.judge.specs.declared.Core.{Core}
 use Rattle.judge.specs.declared.Refusal.{Refusal}
 use Rattle.judge.specs.declared.Refusal.the-variants.{RelayOff, Disabled, OverLimit, StrayWord, RelayBits, WrongCheck, Unsettled, OutOfRange, WrongCount, UnknownCode}
@@ -20,7 +23,7 @@ use Rattle.judge.specs.declared.Verdict.{Verdict}
 use Rattle.judge.specs.declared.Verdict.the-variants.{Apply, Deny}
 use Rattle.judge.specs.Refusals.{numberOf, raised}
 use Rattle.judge.specs.Commands.{carried, relayCmd, ielCmd, maskCmd, targetCmd, limitCmd, modeCmd, steppingCmd, singleOf, muxCmd, directionCmd, energyCmd, countedOf, blockOf}
-use Rattle.judge.specs.Table.{singles, blocks, NoneOf, namedBits, namedBits2, Agree, has, TableLaws}
+use Rattle.judge.specs.Table.{singles, blocks, targetCode, limitCode, steppingCode, NoneOf, namedBits, namedBits2, Agree, has, TableLaws}
 
 between : (r : Refusal) → ((0x04 ≤ numberOf r) × (numberOf r ≤ 0x06)) ⊎ ((0x0B ≤ numberOf r) × (numberOf r ≤ 0x0F))
 between RelayOff = inl (omega arith, omega arith)
@@ -45,7 +48,7 @@ kept supply.OutOfRange = refl
 unknown : (c : Core) (code low : ℕ) → NoneOf singles code → singleOf c code low ≡ Deny UnknownCode
 unfolding singleOf
 unknown c code low h =
-    simp (ne-eqb _ _ (h .0), ne-eqb _ _ (h .1 .0), ne-eqb _ _ (h .1 .1 .0), ne-eqb _ _ (h .1 .1 .1 .0), ne-eqb _ _ (h .1 .1 .1 .1 .0), ne-eqb _ _ (h .1 .1 .1 .1 .1 .0), ne-eqb _ _ (h .1 .1 .1 .1 .1 .1 .0))
+    simp (ne-eqb _ _ (h .0), ne-eqb _ _ (h .1 .0), ne-eqb _ _ (h .1 .1 .0), ne-eqb _ _ (h .1 .1 .1 .0), ne-eqb _ _ (h .1 .1 .1 .1 .0), ne-eqb _ _ (h .1 .1 .1 .1 .1 .0), ne-eqb _ _ (h .1 .1 .1 .1 .1 .1 .0), ne-eqb _ _ (h .1 .1 .1 .1 .1 .1 .1 .0), ne-eqb _ _ (h .1 .1 .1 .1 .1 .1 .1 .1 .0), ne-eqb _ _ (h .1 .1 .1 .1 .1 .1 .1 .1 .1 .0), ne-eqb _ _ (h .1 .1 .1 .1 .1 .1 .1 .1 .1 .1 .0), ne-eqb _ _ (h .1 .1 .1 .1 .1 .1 .1 .1 .1 .1 .1 .0), ne-eqb _ _ (h .1 .1 .1 .1 .1 .1 .1 .1 .1 .1 .1 .1 .0))
 
 unknown2 : (c : Core) (code n x y : ℕ) → NoneOf blocks code → blockOf c code n x y ≡ Deny UnknownCode
 unfolding blockOf
@@ -75,19 +78,19 @@ module _ (c : Core) (a b : ℕ) (ha : a < 0x100) (hb : b < 0x100) where
   mask-same : Agree (namedBits 0x26) a b → maskCmd c a ≡ maskCmd c b
   mask-same e = simp (reads (namedBits 0x26) (λ x. x % 8) tt a b ha hb e)
 
-  target-same : Agree (namedBits 0x28) a b → targetCmd c a ≡ targetCmd c b
+  target-same : (x : Which) → Agree 0x0F a b → targetCmd x c a ≡ targetCmd x c b
   unfolding targeted
-  target-same e = simp (reads (namedBits 0x28) (λ x. x % 16) tt a b ha hb e)
+  target-same x e = simp (reads 0x0F (λ y. y % 16) tt a b ha hb e)
 
-  limit-same : Agree (namedBits 0x29) a b → limitCmd c a ≡ limitCmd c b
+  limit-same : (x : Which) → Agree 0x0F a b → limitCmd x c a ≡ limitCmd x c b
   unfolding limited
-  limit-same e = simp (reads (namedBits 0x29) (λ x. x % 16) tt a b ha hb e)
+  limit-same x e = simp (reads 0x0F (λ y. y % 16) tt a b ha hb e)
 
   mode-same : Agree (namedBits 0x2B) a b → modeCmd c a ≡ modeCmd c b
   mode-same e = ap (modeCmd c) (reads (namedBits 0x2B) (λ x. x) tt a b ha hb e)
 
-  stepping-same : Agree (namedBits 0x2D) a b → steppingCmd c a ≡ steppingCmd c b
-  stepping-same e = ap (steppingCmd c) (reads (namedBits 0x2D) (λ x. x) tt a b ha hb e)
+  stepping-same : (x : Which) → Agree 0xFF a b → steppingCmd x c a ≡ steppingCmd x c b
+  stepping-same x e = ap (steppingCmd x c) (reads 0xFF (λ y. y) tt a b ha hb e)
 
 ignored : (c : Core) (code a b : ℕ) → a < 0x100 → b < 0x100 → Agree (namedBits code) a b → singleOf c code a ≡ singleOf c code b
 unfolding singleOf
@@ -95,12 +98,18 @@ ignored c code a b ha hb =
     let P : ℕ → Type 0 = λ m. Agree m a b in
     row P (eqb code 0x08) (relay-same c a b ha hb) (
     row P (eqb code 0x0C) (iel-same c a b ha hb) (
+    row P (eqb code 0x20) (target-same c a b ha hb Start) (
+    row P (eqb code 0x21) (limit-same c a b ha hb Start) (
+    row P (eqb code 0x22) (stepping-same c a b ha hb Deflection) (
+    row P (eqb code 0x23) (target-same c a b ha hb Deflection) (
+    row P (eqb code 0x24) (limit-same c a b ha hb Deflection) (
     row P (eqb code 0x26) (mask-same c a b ha hb) (
-    row P (eqb code 0x28) (target-same c a b ha hb) (
-    row P (eqb code 0x29) (limit-same c a b ha hb) (
+    row P (eqb code 0x28) (target-same c a b ha hb Stop) (
+    row P (eqb code 0x29) (limit-same c a b ha hb Stop) (
     row P (eqb code 0x2B) (mode-same c a b ha hb) (
-    row P (eqb code 0x2D) (stepping-same c a b ha hb) (
-    λ _. refl)))))))
+    row P (eqb code 0x2C) (stepping-same c a b ha hb Start) (
+    row P (eqb code 0x2D) (stepping-same c a b ha hb Stop) (
+    λ _. refl)))))))))))))
 
 module _ (c : Core) (n a x b y : ℕ) (ha : a < 0x100) (hx : x < 0x100) (hb : b < 0x100) (hy : y < 0x100) where
   abbrev Both : ℕ × ℕ → Type 0
@@ -124,10 +133,15 @@ module _ (c : Core) (n a x b y : ℕ) (ha : a < 0x100) (hx : x < 0x100) (hb : b 
       λ _. refl)))
 
 -- A core at which every command may be accepted: relay and stepping on, limit 15.
+abbrev up : Supply
+up = record { relay = true; stepping = true; level = 0; target = 0; limit = 15 }
+
 abbrev ready : Core
 ready =
     record {
-      stop = record { relay = true; stepping = true; level = 0; target = 0; limit = 15 };
+      stop = up;
+      start = up;
+      deflection = up;
       settings = record {
         parallel = false;
         mask = 0;
@@ -139,15 +153,18 @@ ready =
 abbrev digit : Bool → ℕ
 digit b = pick b 1 0
 
+-- a number that tells one supply from another, under 1024
+abbrev toldSupply : Supply → ℕ
+toldSupply s = digit (s .relay) + 2 * digit (s .stepping) + 4 * s .target + 64 * s .limit
+
 -- a number that tells a verdict on `ready` from another: each part that a command moves in a place of its own
 abbrev told : Verdict → ℕ
 told (Deny why) = 0
 told (Apply c) =
-    let s = c .stop in
     let x = c .settings .sensor in
-    1 + digit (s .relay) + 2 * digit (s .stepping) + 4 * s .target + 64 * s .limit + 1024 * digit (c .settings .parallel) + 2048 * c .settings .mask
-    + 16384 * digit (c .settings .iel .clock) + 32768 * digit (c .settings .iel .enable) + 65536 * digit (x .mux .bit)
-    + 131072 * (x .mux .byte + x .direction .start + 32 * x .direction .stop + x .energy .start + 32 * x .energy .stop)
+    1 + digit (c .settings .parallel) + 2 * digit (c .settings .iel .clock) + 4 * digit (c .settings .iel .enable) + 8 * digit (x .mux .bit) + 16 * c .settings .mask
+    + 128 * (x .mux .byte + x .direction .start + 32 * x .direction .stop + x .energy .start + 32 * x .energy .stop)
+    + 1048576 * (toldSupply (c .stop) + 1024 * toldSupply (c .start) + 1048576 * toldSupply (c .deflection))
 
 -- where a bit of the mask is set, the two verdicts are told apart
 abbrev apart : ℕ → ℕ → Verdict → Verdict → Bool
@@ -180,6 +197,24 @@ test-second : Tested (λ c. namedBits2 c .1) (λ c j. blockOf ready c 2 0 0) (λ
 unfolding blockOf countedOf
 test-second = tt
 
+target : (x : Which) (c : Core) (low : ℕ) → singleOf c (targetCode x) low ≡ targetCmd x c low
+unfolding singleOf
+target Stop c low = refl
+target Start c low = refl
+target Deflection c low = refl
+
+limit : (x : Which) (c : Core) (low : ℕ) → singleOf c (limitCode x) low ≡ limitCmd x c low
+unfolding singleOf
+limit Stop c low = refl
+limit Start c low = refl
+limit Deflection c low = refl
+
+stepping : (x : Which) (c : Core) (low : ℕ) → singleOf c (steppingCode x) low ≡ steppingCmd x c low
+unfolding singleOf
+stepping Stop c low = refl
+stepping Start c low = refl
+stepping Deflection c low = refl
+
 pub laws : TableLaws
 unfolding singleOf blockOf
 laws =
@@ -191,10 +226,10 @@ laws =
       relay = λ c low. refl;
       iel = λ c low. refl;
       mask = λ c low. refl;
-      target = λ c low. refl;
-      limit = λ c low. refl;
+      target = target;
+      limit = limit;
       mode = λ c low. refl;
-      stepping = λ c low. refl;
+      stepping = stepping;
       unknown = unknown;
       mux = λ c n x y. refl;
       direction = λ c n x y. refl;

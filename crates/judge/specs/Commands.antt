@@ -1,5 +1,5 @@
--- What each command of the table does to the rig's core, and when it is refused (01, "Command words"). The low byte is `low`; a block's two bytes
--- are `first` and `second`. Bits not named are ignored.
+-- What each command of the table does to the rig's core, and when it is refused (01, "Command words"; 02 (iv), start and deflection as stop). The
+-- low byte is `low`; a block's two bytes are `first` and `second`; x is the supply that the command is for. Bits not named are ignored.
 -- Assumes nothing.
 use Prim.Native.Nat.{ℕ, _/_, _%_}
 use mathlib.Core.Bool.{Bool, true, false}
@@ -13,21 +13,23 @@ use Rattle.supply.specs.declared.RelayWord.the-variants.{On, Off, Bad}
 use Rattle.judge.specs.declared.Mux.{Mux}
 use Rattle.judge.specs.declared.Window.{Window}
 use Rattle.judge.specs.declared.Sensor.{Sensor}
+use Rattle.judge.specs.declared.Which.{Which}
+use Rattle.judge.specs.declared.Which.the-variants.{Stop, Start, Deflection}
 use Rattle.judge.specs.declared.Core.{Core}
 use Rattle.judge.specs.declared.Verdict.{Verdict}
 use Rattle.judge.specs.declared.Verdict.the-variants.{Apply, Deny}
 use Rattle.judge.specs.declared.Refusal.the-variants.{OutOfRange, WrongCount, UnknownCode}
 use Rattle.judge.specs.Refusals.{raised}
-use Rattle.judge.specs.Records.{withStop, withSettings, withParallel, withMask, withIel, withSensor, withMux, withDirection, withEnergy}
+use Rattle.judge.specs.Records.{supplyAt, withSupply, withSettings, withParallel, withMask, withIel, withSensor, withMux, withDirection, withEnergy}
 
 -- what the supply answers is the verdict
-unfoldable pub carried : Core → Change → Verdict
-carried c (Done s) = Apply (withStop c s)
-carried c (Refused why) = Deny (raised why)
+unfoldable pub carried : Core → Which → Change → Verdict
+carried c x (Done s) = Apply (withSupply c x s)
+carried c x (Refused why) = Deny (raised why)
 
--- single 08h relay: bit 1 on, bit 5 off; both or neither: 0Bh. Off sets level and target to 0
+-- single 08h relay: bit 1 on, bit 5 off; both or neither: 0Bh. It is common: off sets level and target of all three to 0
 abbrev pub relayTo : Core → Bool → Core
-relayTo c on = withStop c (relayed (c .stop) on)
+relayTo c on = record { stop = relayed (c .stop) on; start = relayed (c .start) on; deflection = relayed (c .deflection) on; settings = c .settings }
 
 abbrev pub ordered : Core → RelayWord → Verdict
 ordered c On = Apply (relayTo c true)
@@ -45,13 +47,13 @@ ielCmd c low = Apply (withSettings c (withIel (c .settings) (record { clock = eq
 abbrev pub maskCmd : Core → ℕ → Verdict
 maskCmd c low = Apply (withSettings c (withMask (c .settings) (low % 8)))
 
--- single 28h: bits 3-0 new target; relay off 04h, stepping disabled 05h, target > limit 06h
-abbrev pub targetCmd : Core → ℕ → Verdict
-targetCmd c low = carried c (targeted (c .stop) low)
+-- singles 28h stop, 20h start, 23h deflection: bits 3-0 new target; relay off 04h, stepping disabled 05h, target > limit 06h
+abbrev pub targetCmd : Which → Core → ℕ → Verdict
+targetCmd x c low = carried c x (targeted (supplyAt c x) low)
 
--- single 29h: bits 3-0 new limit; level ≠ target 0Ch, limit > 15 0Dh. Target becomes the smaller of target and limit
-abbrev pub limitCmd : Core → ℕ → Verdict
-limitCmd c low = carried c (limited (c .stop) low)
+-- singles 29h stop, 21h start, 24h deflection: bits 3-0 new limit; level ≠ target 0Ch, limit > 15 0Dh. Target becomes the smaller of target and limit
+abbrev pub limitCmd : Which → Core → ℕ → Verdict
+limitCmd x c low = carried c x (limited (supplyAt c x) low)
 
 -- single 2Bh: 0 serial, 1 parallel; other 0Dh
 abbrev pub modeSet : Core → Bool → Verdict
@@ -60,21 +62,27 @@ modeSet c b = Apply (withSettings c (withParallel (c .settings) b))
 unfoldable pub modeCmd : Core → ℕ → Verdict
 modeCmd c low = pick (eqb low 0) (modeSet c false) (pick (eqb low 1) (modeSet c true) (Deny OutOfRange))
 
--- single 2Dh: stepping 0 off, 1 on; other 0Dh
-abbrev pub steppingCmd : Core → ℕ → Verdict
-steppingCmd c low = carried c (switched (c .stop) low)
+-- singles 2Dh stop, 2Ch start, 22h deflection: stepping 0 off, 1 on; other 0Dh
+abbrev pub steppingCmd : Which → Core → ℕ → Verdict
+steppingCmd x c low = carried c x (switched (supplyAt c x) low)
 
 -- the singles; an unknown single is 0Fh
 unfoldable pub singleOf : Core → ℕ → ℕ → Verdict
 singleOf c code low =
     pick (eqb code 0x08) (relayCmd c low) (
     pick (eqb code 0x0C) (ielCmd c low) (
+    pick (eqb code 0x20) (targetCmd Start c low) (
+    pick (eqb code 0x21) (limitCmd Start c low) (
+    pick (eqb code 0x22) (steppingCmd Deflection c low) (
+    pick (eqb code 0x23) (targetCmd Deflection c low) (
+    pick (eqb code 0x24) (limitCmd Deflection c low) (
     pick (eqb code 0x26) (maskCmd c low) (
-    pick (eqb code 0x28) (targetCmd c low) (
-    pick (eqb code 0x29) (limitCmd c low) (
+    pick (eqb code 0x28) (targetCmd Stop c low) (
+    pick (eqb code 0x29) (limitCmd Stop c low) (
     pick (eqb code 0x2B) (modeCmd c low) (
-    pick (eqb code 0x2D) (steppingCmd c low) (
-    Deny UnknownCode)))))))
+    pick (eqb code 0x2C) (steppingCmd Start c low) (
+    pick (eqb code 0x2D) (steppingCmd Stop c low) (
+    Deny UnknownCode)))))))))))))
 
 -- multiplexer word: byte 1, then bit 0 of byte 2
 abbrev pub muxWord : ℕ → ℕ → Mux

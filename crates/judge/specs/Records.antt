@@ -8,14 +8,24 @@ use Rattle.judge.specs.declared.Window.{Window}
 use Rattle.judge.specs.declared.Sensor.{Sensor}
 use Rattle.judge.specs.declared.Iel.{Iel}
 use Rattle.judge.specs.declared.Settings.{Settings}
+use Rattle.judge.specs.declared.Which.{Which}
+use Rattle.judge.specs.declared.Which.the-variants.{Stop, Start, Deflection}
 use Rattle.judge.specs.declared.Core.{Core}
 
 -- the core
-abbrev pub withStop : Core → Supply → Core
-withStop c x = record { stop = x; settings = c .settings }
-
 abbrev pub withSettings : Core → Settings → Core
-withSettings c x = record { stop = c .stop; settings = x }
+withSettings c x = record { stop = c .stop; start = c .start; deflection = c .deflection; settings = x }
+
+-- the supply that is asked for, and the core with another in its place
+abbrev pub supplyAt : Core → Which → Supply
+supplyAt c Stop = c .stop
+supplyAt c Start = c .start
+supplyAt c Deflection = c .deflection
+
+abbrev pub withSupply : Core → Which → Supply → Core
+withSupply c Stop s = record { stop = s; start = c .start; deflection = c .deflection; settings = c .settings }
+withSupply c Start s = record { stop = c .stop; start = s; deflection = c .deflection; settings = c .settings }
+withSupply c Deflection s = record { stop = c .stop; start = c .start; deflection = s; settings = c .settings }
 
 -- the settings
 abbrev pub withParallel : Settings → Bool → Settings

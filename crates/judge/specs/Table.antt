@@ -1,4 +1,4 @@
--- What a reader may count on of the command table (01, "Command words"): its numbers, its lists of codes, the bits that each command reads.
+-- What a reader may count on of the command table (01, "Command words"; 02 (iv)): its numbers, its lists of codes, the bits that each command reads.
 -- The record is proved in proofs/Table.antt. Assumes nothing.
 use Prim.Native.Nat.{ℕ, _/_, _%_, _^_, _<_}
 use mathlib.Core.Path.{_≡_}
@@ -9,6 +9,8 @@ use lib.Dec.{eqb}
 use Rattle.base.specs.Pick.{pick}
 use Rattle.supply.specs.declared.Refusal.{Refusal as SupplyRefusal}
 use Rattle.supply.specs.Rules as supply
+use Rattle.judge.specs.declared.Which.{Which}
+use Rattle.judge.specs.declared.Which.the-variants.{Stop, Start, Deflection}
 use Rattle.judge.specs.declared.Core.{Core}
 use Rattle.judge.specs.declared.Refusal.{Refusal}
 use Rattle.judge.specs.declared.Refusal.the-variants.{RelayOff, Disabled, OverLimit, StrayWord, RelayBits, WrongCheck, Unsettled, OutOfRange, WrongCount, UnknownCode}
@@ -18,10 +20,26 @@ use Rattle.judge.specs.Commands.{relayCmd, ielCmd, maskCmd, targetCmd, l
 
 -- singles and blocks have separate code lists
 abbrev pub singles : List ℕ
-singles = 0x08 ∷ 0x0C ∷ 0x26 ∷ 0x28 ∷ 0x29 ∷ 0x2B ∷ 0x2D ∷ []
+singles = 0x08 ∷ 0x0C ∷ 0x20 ∷ 0x21 ∷ 0x22 ∷ 0x23 ∷ 0x24 ∷ 0x26 ∷ 0x28 ∷ 0x29 ∷ 0x2B ∷ 0x2C ∷ 0x2D ∷ []
 
 abbrev pub blocks : List ℕ
 blocks = 0x20 ∷ 0x23 ∷ 0x24 ∷ []
+
+-- of each supply, the single that sets its target, its limit, its stepping (G chapter 3)
+abbrev pub targetCode : Which → ℕ
+targetCode Stop = 0x28
+targetCode Start = 0x20
+targetCode Deflection = 0x23
+
+abbrev pub limitCode : Which → ℕ
+limitCode Stop = 0x29
+limitCode Start = 0x21
+limitCode Deflection = 0x24
+
+abbrev pub steppingCode : Which → ℕ
+steppingCode Stop = 0x2D
+steppingCode Start = 0x2C
+steppingCode Deflection = 0x22
 
 abbrev pub NoneOf : List ℕ → ℕ → Type 0
 NoneOf [] code = Unit
@@ -32,12 +50,18 @@ abbrev pub namedBits : ℕ → ℕ
 namedBits code =
     pick (eqb code 0x08) 0x22 ( -- bit 1 on, bit 5 off
     pick (eqb code 0x0C) 0x03 ( -- bit 0 IEL clock, bit 1 IEL enable
+    pick (eqb code 0x20) 0x0F ( -- bits 3-0 new target
+    pick (eqb code 0x21) 0x0F ( -- bits 3-0 new limit
+    pick (eqb code 0x22) 0xFF ( -- 0, 1 or other: the whole byte
+    pick (eqb code 0x23) 0x0F ( -- bits 3-0 new target
+    pick (eqb code 0x24) 0x0F ( -- bits 3-0 new limit
     pick (eqb code 0x26) 0x07 ( -- bits 2-0 head mask
     pick (eqb code 0x28) 0x0F ( -- bits 3-0 new target
     pick (eqb code 0x29) 0x0F ( -- bits 3-0 new limit
     pick (eqb code 0x2B) 0xFF ( -- 0, 1 or other: the whole byte
+    pick (eqb code 0x2C) 0xFF ( -- 0, 1 or other: the whole byte
     pick (eqb code 0x2D) 0xFF ( -- 0, 1 or other: the whole byte
-    0x00)))))))
+    0x00)))))))))))))
 
 -- and of a block's two bytes.
 abbrev pub namedBits2 : ℕ → ℕ × ℕ
@@ -68,10 +92,10 @@ pub record TableLaws : Type 0 where
   pub relay : (c : Core) (low : ℕ) → singleOf c 0x08 low ≡ relayCmd c low
   pub iel : (c : Core) (low : ℕ) → singleOf c 0x0C low ≡ ielCmd c low
   pub mask : (c : Core) (low : ℕ) → singleOf c 0x26 low ≡ maskCmd c low
-  pub target : (c : Core) (low : ℕ) → singleOf c 0x28 low ≡ targetCmd c low
-  pub limit : (c : Core) (low : ℕ) → singleOf c 0x29 low ≡ limitCmd c low
+  pub target : (x : Which) (c : Core) (low : ℕ) → singleOf c (targetCode x) low ≡ targetCmd x c low
+  pub limit : (x : Which) (c : Core) (low : ℕ) → singleOf c (limitCode x) low ≡ limitCmd x c low
   pub mode : (c : Core) (low : ℕ) → singleOf c 0x2B low ≡ modeCmd c low
-  pub stepping : (c : Core) (low : ℕ) → singleOf c 0x2D low ≡ steppingCmd c low
+  pub stepping : (x : Which) (c : Core) (low : ℕ) → singleOf c (steppingCode x) low ≡ steppingCmd x c low
   pub unknown : (c : Core) (code low : ℕ) → NoneOf singles code → singleOf c code low ≡ Deny UnknownCode
   -- each listed block is judged by its own row, and an unknown one is 0Fh, whatever its n
   pub mux : (c : Core) (n x y : ℕ) → blockOf c 0x20 n x y ≡ muxCmd c n x y

@@ -2,6 +2,7 @@
 // Keeps of 01 "Command words" the numbers; the table's rows, their refusals in order, are defined here.
 ghost use mathlib.Core.Path.{_≡_};
 ghost use Rattle.judge.specs.Refusals.{numberOf};
+ghost use Rattle.judge.specs.Records.{supplyAt, withSupply};
 use supply::Supply;
 
 // The multiplexer word: all of byte 1, and bit 0 of byte 2.
@@ -34,9 +35,18 @@ pub struct Settings {
     pub sensor: Sensor,
 }
 
+// The three supplies (02 (iv)): stop MCP, start MCP, deflection.
+pub enum Which {
+    Stop,
+    Start,
+    Deflection,
+}
+
 // What commands move. It holds no array, so an enum can hold it.
 pub struct Core {
     pub stop: Supply,
+    pub start: Supply,
+    pub deflection: Supply,
     pub settings: Settings,
 }
 
@@ -75,4 +85,28 @@ pub fn number(r: Refusal) -> u8
         Refusal::WrongCount => 0x0E,
         Refusal::UnknownCode => 0x0F,
     }
+}
+
+// The supply that a command is for.
+pub fn supply_at(core: Core, which: Which) -> Supply
+    ensures { λ r. ⌜ r ≡ supplyAt core which ⌝ }
+{
+    match which {
+        Which::Stop => core.stop,
+        Which::Start => core.start,
+        Which::Deflection => core.deflection,
+    }
+}
+
+// The core with another record of that supply: the other two stay.
+pub fn with_supply(core: Core, which: Which, supply: Supply) -> Core
+    ensures { λ r. ⌜ r ≡ withSupply core which supply ⌝ }
+{
+    let mut next = core;
+    match which {
+        Which::Stop => next.stop = supply,
+        Which::Start => next.start = supply,
+        Which::Deflection => next.deflection = supply,
+    }
+    next
 }

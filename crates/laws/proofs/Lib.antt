@@ -6,6 +6,7 @@ pub mod Commands
 pub mod Words
 pub mod Replies
 pub mod Rows
+pub mod Supplies
 pub mod Blocks
 pub mod Begun
 pub mod Bounds

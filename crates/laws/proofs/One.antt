@@ -7,6 +7,7 @@ use native.Mathlib.Omega.{arith}
 use lib.Dec.{eqb, ltb}
 use borrow.Author.Tests.{eqb-true, eqb-false, ltb-true, ltb-false}
 use Rattle.base.proofs.Cases.{split}
+use Rattle.judge.specs.declared.Which.the-variants.{Stop, Start, Deflection}
 use Rattle.rig.specs.declared.Kind.{Kind}
 use Rattle.rig.specs.declared.Kind.the-variants.{Single, Head, Data, End}
 use Rattle.rig.specs.declared.Rig.{Rig}
@@ -25,15 +26,21 @@ module _ (take other : Rig → ℕ → Taken) (mine : RowLaws take) (yours : Row
   -- a single, by its code
   singles : (r : Rig) (code low : ℕ) → code < 64 → low < 256 → Idle r → take r (single code low) ≡ other r (single code low)
   singles r code low h l i =
-      split (eqb code 0x08) (λ e. rw (eqb-true code 0x08 e) (agree (mine .relay08 r low l i) (yours .relay08 r low l i))) (λ a.
-      split (eqb code 0x0C) (λ e. rw (eqb-true code 0x0C e) (agree (mine .iel0C r low l i) (yours .iel0C r low l i))) (λ b.
-      split (eqb code 0x26) (λ e. rw (eqb-true code 0x26 e) (agree (mine .mask26 r low l i) (yours .mask26 r low l i))) (λ c.
-      split (eqb code 0x28) (λ e. rw (eqb-true code 0x28 e) (agree (mine .target28 r low l i) (yours .target28 r low l i))) (λ d.
-      split (eqb code 0x29) (λ e. rw (eqb-true code 0x29 e) (agree (mine .limit29 r low l i) (yours .limit29 r low l i))) (λ f.
-      split (eqb code 0x2B) (λ e. rw (eqb-true code 0x2B e) (agree (mine .mode2B r low l i) (yours .mode2B r low l i))) (λ g.
-      split (eqb code 0x2D) (λ e. rw (eqb-true code 0x2D e) (agree (mine .stepping2D r low l i) (yours .stepping2D r low l i))) (λ k.
-      let u : Unlisted code = record { not08 = eqb-false _ _ a; not0C = eqb-false _ _ b; not26 = eqb-false _ _ c; not28 = eqb-false _ _ d; not29 = eqb-false _ _ f; not2B = eqb-false _ _ g; not2D = eqb-false _ _ k } in
-      mine .unknown r code low h l i u ∙ sym (yours .unknown r code low h l i u))))))))
+      split (eqb code 0x08) (λ e. rw (eqb-true code 0x08 e) (agree (mine .relay08 r low l i) (yours .relay08 r low l i))) (λ n08.
+      split (eqb code 0x0C) (λ e. rw (eqb-true code 0x0C e) (agree (mine .iel0C r low l i) (yours .iel0C r low l i))) (λ n0C.
+      split (eqb code 0x20) (λ e. rw (eqb-true code 0x20 e) (agree (mine .target Start r low l i) (yours .target Start r low l i))) (λ n20.
+      split (eqb code 0x21) (λ e. rw (eqb-true code 0x21 e) (agree (mine .limit Start r low l i) (yours .limit Start r low l i))) (λ n21.
+      split (eqb code 0x22) (λ e. rw (eqb-true code 0x22 e) (agree (mine .stepping Deflection r low l i) (yours .stepping Deflection r low l i))) (λ n22.
+      split (eqb code 0x23) (λ e. rw (eqb-true code 0x23 e) (agree (mine .target Deflection r low l i) (yours .target Deflection r low l i))) (λ n23.
+      split (eqb code 0x24) (λ e. rw (eqb-true code 0x24 e) (agree (mine .limit Deflection r low l i) (yours .limit Deflection r low l i))) (λ n24.
+      split (eqb code 0x26) (λ e. rw (eqb-true code 0x26 e) (agree (mine .mask26 r low l i) (yours .mask26 r low l i))) (λ n26.
+      split (eqb code 0x28) (λ e. rw (eqb-true code 0x28 e) (agree (mine .target Stop r low l i) (yours .target Stop r low l i))) (λ n28.
+      split (eqb code 0x29) (λ e. rw (eqb-true code 0x29 e) (agree (mine .limit Stop r low l i) (yours .limit Stop r low l i))) (λ n29.
+      split (eqb code 0x2B) (λ e. rw (eqb-true code 0x2B e) (agree (mine .mode2B r low l i) (yours .mode2B r low l i))) (λ n2B.
+      split (eqb code 0x2C) (λ e. rw (eqb-true code 0x2C e) (agree (mine .stepping Start r low l i) (yours .stepping Start r low l i))) (λ n2C.
+      split (eqb code 0x2D) (λ e. rw (eqb-true code 0x2D e) (agree (mine .stepping Stop r low l i) (yours .stepping Stop r low l i))) (λ n2D.
+      let u : Unlisted code = record { not08 = eqb-false _ _ n08; not0C = eqb-false _ _ n0C; not20 = eqb-false _ _ n20; not21 = eqb-false _ _ n21; not22 = eqb-false _ _ n22; not23 = eqb-false _ _ n23; not24 = eqb-false _ _ n24; not26 = eqb-false _ _ n26; not28 = eqb-false _ _ n28; not29 = eqb-false _ _ n29; not2B = eqb-false _ _ n2B; not2C = eqb-false _ _ n2C; not2D = eqb-false _ _ n2D } in
+      mine .unknown r code low h l i u ∙ sym (yours .unknown r code low h l i u))))))))))))))
 
   -- with nothing pending
   idle : (r : Rig) (w : ℕ) (k : Kind) → Idle r → IsKind (w / 0x4000) k → take r w ≡ other r w

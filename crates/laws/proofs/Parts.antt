@@ -6,8 +6,10 @@ use Rattle.laws.specs.Parts.{Parts}
 pub parts : Parts
 parts =
     record {
-      stop = λ a x. (refl, refl);
-      settings = λ a x. (refl, refl);
+      stop = λ a x. (refl, refl, refl, refl);
+      start = λ a x. (refl, refl, refl, refl);
+      deflection = λ a x. (refl, refl, refl, refl);
+      settings = λ a x. (refl, refl, refl, refl);
       parallel = λ a x. (refl, refl, refl, refl);
       mask = λ a x. (refl, refl, refl, refl);
       iel = λ a x. (refl, refl, refl, refl);

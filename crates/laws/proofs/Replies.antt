@@ -48,14 +48,14 @@ Moved r w b t =
 
 moved : (w : ℕ) {r : Rig} {b : Bool} {t : Taken} → Case r (highOf w) (lowOf w) b t → Moved r w b t
 unfolding settledOf refusedOf
-moved w (idle e j (judged (Apply c) h)) = ((refl, rw e refl), alike _ _ _ _ _, refl, λ p. ap (pairOf p) (h .1))
+moved w (idle e j (judged (Apply c) h)) = ((refl, rw e refl), alike _ _ _ _ _, refl, λ p. ap (pairOf p) (h .1 .0))
 moved w (idle e j (judged (Deny why) h)) = ((record { core = refl; pending = rw e refl }, rw e refl), alike _ _ _ _ _, refl, λ p. refl)
 moved w (idle e j (begun h)) = ((refl, refl, rw e refl), alike _ _ _ _ _, refl, λ p. refl)
 moved w (kept e h) = ((refl, refl, rw e refl), alike _ _ _ _ _, refl, λ p. refl)
-moved w (closed e (Apply c) h) = ((refl, rw e refl), alike _ _ _ _ _, refl, h .1)
+moved w (closed e (Apply c) h) = ((refl, rw e refl), alike _ _ _ _ _, refl, h .1 .0)
 moved w (closed e (Deny why) h) = ((record { core = refl; pending = rw e refl }, rw e refl), alike _ _ _ _ _, refl, λ p. refl)
 moved w (swallowed e) = ((e, record { core = refl; pending = rw e refl }, refl), alike _ _ _ _ _, refl, λ p. refl)
-moved w (again e j (judged (Apply c) h)) = ((e, refl, rw e refl), alike _ _ _ _ _, refl, λ p. ap (pairOf p) (h .1))
+moved w (again e j (judged (Apply c) h)) = ((e, refl, rw e refl), alike _ _ _ _ _, refl, λ p. ap (pairOf p) (h .1 .0))
 moved w (again e j (judged (Deny why) h)) = ((e, record { core = refl; pending = rw e refl }, refl), alike _ _ _ _ _, refl, λ p. refl)
 moved w (again e j (begun h)) = ((e, refl, refl, refl), alike _ _ _ _ _, refl, λ p. refl)
 

@@ -17,11 +17,15 @@ use Rattle.supply.specs.Rules.{relayOf, targeted, limited, switched}
 use Rattle.supply.specs.When.{RelayWhen, TargetWhen, LimitWhen, StepWhen}
 use Rattle.supply.proofs.When.{relay-when, targeted-when, limited-when, switched-when}
 use Rattle.crc.specs.Judged.{judgeOf}
+use Rattle.judge.specs.declared.Which.{Which}
 use Rattle.judge.specs.declared.Core.{Core}
 use Rattle.judge.specs.declared.Verdict.{Verdict}
 use Rattle.judge.specs.declared.Verdict.the-variants.{Deny}
 use Rattle.judge.specs.declared.Refusal.the-variants.{StrayWord, WrongCount, UnknownCode}
 use Rattle.judge.specs.Commands.{carried, ordered, relayCmd, ielCmd, maskCmd, modeCmd, singleOf, countedOf, blockOf}
+use Rattle.judge.specs.Records.{supplyAt}
+use Rattle.judge.specs.Table.{targetCode, limitCode, steppingCode}
+use Rattle.judge.proofs.Table.{laws}
 use Rattle.rig.specs.declared.Kind.the-variants.{Single, Head, Data, End}
 use Rattle.rig.specs.declared.Pending.{Pending}
 use Rattle.rig.specs.declared.Rig.{Rig}
@@ -29,7 +33,7 @@ use Rattle.rig.specs.declared.Taken.{Taken}
 use Rattle.rig.specs.Words.{highOf, lowOf, codeOf, sameCode, keeps, closes, settledOf, refusedOf, headOf, freshOf, verdictOf, closedOf, droppedOf, pendingOf, takeOf}
 use Rattle.laws.specs.Results.{opened, grown, refused, waiting, swallowed, outcome, supplied}
 use Rattle.laws.specs.Rows.{single, Idle, Waits, SameCode, ExactlyOne, SupplyRow, CoreRow, SwitchWhen, on, off, bits, IelWhen, MaskWhen, ModeWhen, serial, parallel, other, Unlisted, PendingWhen, wrongCheck, unknown, wrongCount20, wrongCount23, wrongCount24, multiplexer, direction, energy, RowLaws}
-use Rattle.laws.proofs.Tests.{by-test, not-both}
+use Rattle.laws.proofs.Tests.{by-test, not-both, each}
 use Rattle.laws.proofs.Words.{takes}
 use Rattle.laws.proofs.WordKinds.{of-kind, settled-is, supplied-is}
 
@@ -59,13 +63,13 @@ row code h rule tells results told When is alone cmd r low l i =
       then = judged r code low h l i ∙ ap (settledOf r code) (cmd (r .core) low) ∙ told r code (rule (r .core) low);
     }
 
--- a row of the supply: its table is the supply's, and says exactly when each answer is given
-supply-row : (code : ℕ) → code < 64 → (rule : Supply → ℕ → Change) (When : Supply → ℕ → Change → Type 0)
+-- a row of the supply x: its table is the supply's, and says exactly when each answer is given
+supply-row : (x : Which) (code : ℕ) → code < 64 → (rule : Supply → ℕ → Change) (When : Supply → ℕ → Change → Type 0)
     → ((s : Supply) (low : ℕ) (ch : Change) → (rule s low ≡ ch) ↔ When s low ch)
-    → ((c : Core) (low : ℕ) → singleOf c code low ≡ carried c (rule (c .stop) low)) → SupplyRow takeOf code When
-supply-row code h rule When when cmd =
-    row code h (λ c low. rule (c .stop) low) carried supplied supplied-is (λ c low. When (c .stop) low)
-    (λ c low. when (c .stop) low (rule (c .stop) low) .0 refl) (λ c low x w. sym (when (c .stop) low x .1 w)) cmd
+    → ((c : Core) (low : ℕ) → singleOf c code low ≡ carried c x (rule (supplyAt c x) low)) → SupplyRow takeOf code x When
+supply-row x code h rule When when cmd =
+    row code h (λ c low. rule (supplyAt c x) low) (λ c ch. carried c x ch) (λ r high ch. supplied r high x ch) (supplied-is x) (λ c low. When (supplyAt c x) low)
+    (λ c low. when (supplyAt c x) low (rule (supplyAt c x) low) .0 refl) (λ c low ch w. sym (when (supplyAt c x) low ch .1 w)) cmd
 
 -- a row of the core
 core-row : (code : ℕ) → code < 64 → (rule : Core → ℕ → Verdict) (When : Core → ℕ → Verdict → Type 0)
@@ -92,17 +96,15 @@ relay08 : CoreRow takeOf 0x08 SwitchWhen
 unfolding singleOf
 relay08 = core-row 0x08 (omega arith) relayCmd SwitchWhen (λ c low. switch-here c low (relayOf low) (relay-when low (relayOf low) .0 refl)) switch-alone (λ c low. refl)
 
-target28 : SupplyRow takeOf 0x28 TargetWhen
-unfolding singleOf
-target28 = supply-row 0x28 (omega arith) targeted TargetWhen targeted-when (λ c low. refl)
+-- a supply's code is a code
+target-code : (x : Which) → targetCode x < 64
+target-code = each (λ x. targetCode x < 64) (omega arith) (omega arith) (omega arith)
 
-limit29 : SupplyRow takeOf 0x29 LimitWhen
-unfolding singleOf
-limit29 = supply-row 0x29 (omega arith) limited LimitWhen limited-when (λ c low. refl)
+limit-code : (x : Which) → limitCode x < 64
+limit-code = each (λ x. limitCode x < 64) (omega arith) (omega arith) (omega arith)
 
-stepping2D : SupplyRow takeOf 0x2D StepWhen
-unfolding singleOf
-stepping2D = supply-row 0x2D (omega arith) switched StepWhen switched-when (λ c low. refl)
+stepping-code : (x : Which) → steppingCode x < 64
+stepping-code = each (λ x. steppingCode x < 64) (omega arith) (omega arith) (omega arith)
 
 iel0C : CoreRow takeOf 0x0C IelWhen
 unfolding singleOf
@@ -132,7 +134,7 @@ mode2B = core-row 0x2B (omega arith) modeCmd ModeWhen mode-here mode-alone (λ c
 unlisted : (c : Core) (code low : ℕ) → Unlisted code → singleOf c code low ≡ Deny UnknownCode
 unfolding singleOf
 unlisted c code low u =
-    simp (ne-eqb _ _ (u .not08), ne-eqb _ _ (u .not0C), ne-eqb _ _ (u .not26), ne-eqb _ _ (u .not28), ne-eqb _ _ (u .not29), ne-eqb _ _ (u .not2B), ne-eqb _ _ (u .not2D))
+    simp (ne-eqb _ _ (u .not08), ne-eqb _ _ (u .not0C), ne-eqb _ _ (u .not20), ne-eqb _ _ (u .not21), ne-eqb _ _ (u .not22), ne-eqb _ _ (u .not23), ne-eqb _ _ (u .not24), ne-eqb _ _ (u .not26), ne-eqb _ _ (u .not28), ne-eqb _ _ (u .not29), ne-eqb _ _ (u .not2B), ne-eqb _ _ (u .not2C), ne-eqb _ _ (u .not2D))
 
 -- a word with nothing pending that is refused whatever its code
 module _ (r : Rig) (w : ℕ) (i : Idle r) where
@@ -209,10 +211,10 @@ row-laws =
       relay08 = relay08;
       iel0C = iel0C;
       mask26 = mask26;
-      target28 = target28;
-      limit29 = limit29;
       mode2B = mode2B;
-      stepping2D = stepping2D;
+      target = λ x. supply-row x (targetCode x) (target-code x) targeted TargetWhen targeted-when (laws .target x);
+      limit = λ x. supply-row x (limitCode x) (limit-code x) limited LimitWhen limited-when (laws .limit x);
+      stepping = λ x. supply-row x (steppingCode x) (stepping-code x) switched StepWhen switched-when (laws .stepping x);
       unknown = λ r code low h l i u.
           judged r code low h l i ∙ ap (settledOf r code) (unlisted (r .core) code low u) ∙ settled-is r code (Deny UnknownCode);
       long = long;

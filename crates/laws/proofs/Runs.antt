@@ -9,12 +9,18 @@ use native.Mathlib.Nat.{not-suc-le-zero}
 use native.Mathlib.Decide.{ℕ-discrete}
 use lib.Dec.{eqb}
 use lib.ListN.{length}
+use Rattle.supply.specs.declared.Supply.{Supply}
+use Rattle.supply.specs.Rules.{stepped}
+use Rattle.supply.specs.Laws.{SpinMoves}
 use Rattle.supply.proofs.Ramp.{spin-moves}
 use Rattle.supply.proofs.Kept.{stepped-safe, stepped-quiet}
 use Rattle.base.specs.Pick.{pick}
 use Rattle.frame.specs.Items.{items, heldAt}
 use Rattle.frame.specs.Read.{remOf, isPlain}
 use Rattle.frame.proofs.Rows.{plain-lt}
+use Rattle.judge.specs.declared.Which.{Which}
+use Rattle.judge.specs.declared.Which.the-variants.{Stop, Start, Deflection}
+use Rattle.judge.specs.Records.{supplyAt}
 use Rattle.rig.specs.declared.Panel.{Panel}
 use Rattle.power.specs.declared.PanelSetting.{PanelSetting}
 use Rattle.power.specs.declared.PanelSetting.the-variants.{Bias, Ground, FreeTime, Flap1, Flap2, Flap3}
@@ -23,15 +29,16 @@ use Rattle.rig.specs.declared.Rig.{Rig}
 use Rattle.rig.specs.Records.{withPanel, withSending}
 use Rattle.rig.specs.Words.{highOf, lowOf, takeOf}
 use Rattle.rig.specs.Replies.{refusalsOf}
-use Rattle.rig.specs.Start.{clearSensor, startRig}
-use Rattle.power.specs.Power.{panelOf, setOf}
+use Rattle.rig.specs.Start.{clearSensor, offSupply, startRig}
+use Rattle.power.specs.Power.{panelOf, spunOf, setOf}
 use Rattle.sending.specs.Sending.{heldOf, bit, nextLatch}
 use Rattle.laws.specs.Ordered.{Order, multiplexers, direction, energy, pairOf}
 use Rattle.laws.specs.Replies.{closing}
 use Rattle.laws.specs.Runs.{FitsPanel, Happening, word, spin, set, cut, frame, ours, happened, rigAfter, heldAs, Ledger, nothingGiven, latestError, latestCode, orderedBy, entered, ledger, rigReached, given, SensorBounds, Bounds, panelBy, Kept, SetMoves, RunLaws}
-use Rattle.laws.proofs.Tests.{by-test}
+use Rattle.laws.proofs.Tests.{by-test, each}
 use Rattle.laws.proofs.Words.{case}
 use Rattle.laws.proofs.Replies.{reply-laws, ordered-word}
+use Rattle.laws.proofs.Commands.{Up, up}
 use Rattle.laws.proofs.Bounds.{nothing-fits, Fits, word-fits, Told, told}
 use Rattle.laws.proofs.Begun.{begun-word, closed-by, check-of, named-by, ordered-by}
 
@@ -65,6 +72,9 @@ clear-pair multiplexers = refl
 clear-pair direction = refl
 clear-pair energy = refl
 
+off-up : Up false offSupply
+off-up = record { safe = record { under = omega arith; limit-small = omega arith; level-small = omega arith }; quiet = λ e. (refl, refl); relay = refl }
+
 start-inv : Inv startRig nothingGiven
 start-inv =
     record {
@@ -74,12 +84,7 @@ start-inv =
       check = refl;
       byte = omega arith;
       fits = (
-        record {
-          safe = record { under = omega arith; limit-small = omega arith; level-small = omega arith };
-          quiet = λ e. (refl, refl);
-          mask = omega arith;
-          sensor = clear-fits;
-        },
+        record { on = false; stop = off-up; start = off-up; deflection = off-up; mask = omega arith; sensor = clear-fits },
         nothing-fits,
       );
       panel = record { bias = omega arith; ground = omega arith; free = omega arith };
@@ -124,6 +129,11 @@ panel-set p (Flap1 b) k h = record { bias = h .bias; ground = h .ground; free = 
 panel-set p (Flap2 b) k h = record { bias = h .bias; ground = h .ground; free = h .free }
 panel-set p (Flap3 b) k h = record { bias = h .bias; ground = h .ground; free = h .free }
 
+-- a spin leaves the relay
+stepped-up : {on : Bool} (s : Supply) → Up on s → Up on (stepped s)
+stepped-up s u =
+    record { safe = stepped-safe s (u .safe); quiet = stepped-quiet s (u .quiet); relay = ap (λ (n : Supply). n .relay) (spin-moves s .alone) ∙ u .relay }
+
 after-inv : (r : Rig) (l : Ledger) (e : Happening) → Inv r l → Inv (happened ours r e) (entered ours r e l)
 unfolding setOf
 after-inv r l (word w h) i = word-inv r l w h i
@@ -135,7 +145,17 @@ after-inv r l spin i =
       holds = i .holds;
       check = i .check;
       byte = i .byte;
-      fits = (record { safe = stepped-safe (r .core .stop) (c .safe); quiet = stepped-quiet (r .core .stop) (c .quiet); mask = c .mask; sensor = c .sensor }, i .fits .1);
+      fits = (
+        record {
+          on = c .on;
+          stop = stepped-up (r .core .stop) (c .stop);
+          start = stepped-up (r .core .start) (c .start);
+          deflection = stepped-up (r .core .deflection) (c .deflection);
+          mask = c .mask;
+          sensor = c .sensor;
+        },
+        i .fits .1,
+      );
       panel = i .panel;
       sending = i .sending;
       ordered = i .ordered;
@@ -161,14 +181,12 @@ always : (es : List Happening) → Inv (rigReached ours es) (given ours es)
 always es = run-inv startRig nothingGiven es start-inv
 
 bounded : {r : Rig} {l : Ledger} → Inv r l → Bounds r
-bounded i =
+bounded {r} i =
     let c = i .fits .0 in
     let p = i .fits .1 in
     record {
-      target = c .safe .under;
-      limit = c .safe .limit-small;
-      level = c .safe .level-small;
-      off = c .quiet;
+      supply = λ x. let u = up (r .core) c x in record { target = u .safe .under; limit = u .safe .limit-small; level = u .safe .level-small; off = u .quiet };
+      relays = λ x y. up (r .core) c x .relay ∙ sym (up (r .core) c y .relay);
       mask = c .mask;
       ordered = c .sensor;
       register = i .sensor;
@@ -212,9 +230,10 @@ bit-small false = omega arith
 abbrev plainHeld : Rig → ℕ → ℕ
 plainHeld r k = pick (isPlain k) (heldAt (heldOf r) k) 0
 
-small : (r : Rig) → Bounds r → Under (plainHeld r) remOf items
+-- the rows up to the free time's, and those of start and deflection behind them
+firstSmall : (r : Rig) → Bounds r → Under (plainHeld r) remOf 27
 unfolding isPlain
-small r b =
+firstSmall r b =
     let s = r .core .settings in
     let p = r .panel in
     let register = b .register in
@@ -222,11 +241,21 @@ small r b =
     let enable = bit-small (s .iel .enable) in
     let clock = bit-small (s .iel .clock) in
     let relay = bit-small (r .core .stop .relay) in
+    let stop = b .supply Stop in
     let stepping = bit-small (r .core .stop .stepping) in
     let flap1 = bit-small (p .flap1) in
     let flap2 = bit-small (p .flap2) in
     let flap3 = bit-small (p .flap3) in
     omega arith
+
+small : (r : Rig) → Bounds r → Under (plainHeld r) remOf items
+unfolding isPlain
+small r b =
+    let start = b .supply Start in
+    let deflection = b .supply Deflection in
+    let startStepping = bit-small (r .core .start .stepping) in
+    let deflectionStepping = bit-small (r .core .deflection .stepping) in
+    (omega arith, (omega arith, (omega arith, (omega arith, (omega arith, (omega arith, firstSmall r b))))))
 
 widths : (r : Rig) → Bounds r → (k : ℕ) → isPlain k ≡ true → heldAt (heldOf r) k < remOf k
 widths r b k h =
@@ -248,6 +277,11 @@ set-moves : (r : Rig) (s : PanelSetting) → SetMoves r s (setOf r s)
 unfolding setOf
 set-moves r s = record { panel = panel-is (r .panel) s; sending = refl; kept = all-kept r (panelOf (r .panel) s) (r .sending) }
 
+spun : (r : Rig) (x : Which) → SpinMoves (supplyAt (r .core) x) (supplyAt (spunOf r .core) x)
+spun r =
+    each (λ x. SpinMoves (supplyAt (r .core) x) (supplyAt (spunOf r .core) x))
+    (spin-moves (r .core .stop)) (spin-moves (r .core .start)) (spin-moves (r .core .deflection))
+
 pub run-laws : RunLaws ours
 run-laws =
     record {
@@ -264,6 +298,6 @@ run-laws =
       widths = λ es. widths (rigReached ours es) (bounded (always es));
       set = set-moves;
       sent = λ r. record { next = refl; latch = refl; panel = refl; kept = all-kept r (r .panel) _ };
-      spin = λ r. record { stop = spin-moves (r .core .stop); register = refl; edbs = refl; settings = refl; faults = refl; pending = refl; check = refl; panel = refl; sending = refl };
+      spin = λ r. record { supply = spun r; register = refl; edbs = refl; settings = refl; faults = refl; pending = refl; check = refl; panel = refl; sending = refl };
       cut = λ r. refl;
     }

@@ -1,6 +1,6 @@
 -- The kind of a word, by arithmetic and as the decoder has it; and what the decoder's helpers come to in the words of the laws.
 -- Assumes nothing.
-use mathlib.Core.Path.{_≡_, refl, ap, sym, _∙_}
+use mathlib.Core.Path.{_≡_, refl, ap, sym, subst, _∙_}
 use mathlib.Core.Bool.{Bool, true, false, _&&_}
 use Prim.Native.Nat.{ℕ, _/_, _≤_}
 use native.Mathlib.Omega.{arith}
@@ -9,13 +9,14 @@ use borrow.Author.Tests.{eqb-true, eqb-false, ne-eqb, le-leb}
 use Rattle.base.specs.Pick.{pick}
 use Rattle.supply.specs.declared.Change.{Change}
 use Rattle.supply.specs.declared.Change.the-variants as supply
+use Rattle.judge.specs.declared.Which.{Which}
 use Rattle.judge.specs.declared.Verdict.{Verdict}
 use Rattle.judge.specs.declared.Verdict.the-variants.{Apply, Deny}
 use Rattle.judge.specs.Commands.{carried}
 use Rattle.rig.specs.declared.Kind.{Kind}
 use Rattle.rig.specs.declared.Kind.the-variants.{Single, Head, Data, End}
 use Rattle.rig.specs.declared.Rig.{Rig}
-use Rattle.rig.specs.Words.{highOf, kindOf, closes, settledOf, refusedOf}
+use Rattle.rig.specs.Words.{highOf, kindOf, codeOf, closes, settledOf, refusedOf}
 use Rattle.laws.specs.Results.{outcome, supplied}
 use Rattle.laws.specs.Replies.{closing}
 use Rattle.laws.proofs.Tests.{by-test}
@@ -54,6 +55,11 @@ of-kind w End h =
     let b : w / 0x4000 ≡ 1 → ⊥ = λ e. omega arith in
     let c : w / 0x4000 ≡ 2 → ⊥ = λ e. omega arith in
     by-number w ∙ simp (ne-eqb _ _ a, ne-eqb _ _ b, ne-eqb _ _ c)
+
+-- of a single the high byte is the code
+pub single-code : (high : ℕ) → kindOf high ≡ Single → codeOf high ≡ high
+unfolding kindOf
+single-code high e = let z = subst (IsKind (high / 64)) e (is-kind (high / 64)) in omega arith
 
 -- is it an end word, a head, a data word?
 abbrev pub isEnd : Kind → Bool
@@ -118,7 +124,7 @@ unfolding settledOf refusedOf
 settled-is r high (Apply c) = refl
 settled-is r high (Deny why) = refl
 
-pub supplied-is : (r : Rig) (high : ℕ) (ch : Change) → settledOf r high (carried (r .core) ch) ≡ supplied r high ch
+pub supplied-is : (x : Which) (r : Rig) (high : ℕ) (ch : Change) → settledOf r high (carried (r .core) x ch) ≡ supplied r high x ch
 unfolding settledOf refusedOf carried
-supplied-is r high (supply.Done s) = refl
-supplied-is r high (supply.Refused why) = refl
+supplied-is x r high (supply.Done s) = refl
+supplied-is x r high (supply.Refused why) = refl

@@ -4,6 +4,7 @@ pub mod Results
 pub mod Ordered
 pub mod Replies
 pub mod Rows
+pub mod Supplies
 pub mod Blocks
 pub mod Runs
 pub mod Register

@@ -10,8 +10,9 @@ use Rattle.judge.specs.declared.Window.{Window}
 use Rattle.judge.specs.declared.Sensor.{Sensor}
 use Rattle.judge.specs.declared.Iel.{Iel}
 use Rattle.judge.specs.declared.Settings.{Settings}
+use Rattle.judge.specs.declared.Which.the-variants.{Stop, Start, Deflection}
 use Rattle.judge.specs.declared.Core.{Core}
-use Rattle.judge.specs.Records.{withStop, withSettings, withParallel, withMask, withIel, withSensor, withMux, withDirection, withEnergy}
+use Rattle.judge.specs.Records.{withSupply, withSettings, withParallel, withMask, withIel, withSensor, withMux, withDirection, withEnergy}
 use Rattle.rig.specs.declared.Faults.{Faults}
 use Rattle.rig.specs.declared.Pending.{Pending}
 use Rattle.rig.specs.declared.Panel.{Panel}
@@ -20,8 +21,8 @@ use Rattle.rig.specs.declared.Rig.{Rig}
 use Rattle.rig.specs.Records.{withCore, withRegister, withFaults, withPending, withCheck, withPanel, withSending, withEdbs, withBias, withGround, withFree, withFlap1, withFlap2, withFlap3}
 
 -- the parts of each record
-abbrev pub CoreIs : Core → Supply → Settings → Type 0
-CoreIs c stop settings = (c .stop ≡ stop) × (c .settings ≡ settings)
+abbrev pub CoreIs : Core → Supply → Supply → Supply → Settings → Type 0
+CoreIs c stop start deflection settings = (c .stop ≡ stop) × (c .start ≡ start) × (c .deflection ≡ deflection) × (c .settings ≡ settings)
 
 abbrev pub SettingsAre : Settings → Bool → ℕ → Iel → Sensor → Type 0
 SettingsAre s parallel mask iel sensor = (s .parallel ≡ parallel) × (s .mask ≡ mask) × (s .iel ≡ iel) × (s .sensor ≡ sensor)
@@ -38,8 +39,10 @@ PanelIs p bias ground free flap1 flap2 flap3 =
     (p .bias ≡ bias) × (p .ground ≡ ground) × (p .free ≡ free) × (p .flap1 ≡ flap1) × (p .flap2 ≡ flap2) × (p .flap3 ≡ flap3)
 
 pub record Parts : Type 0 where
-  pub stop : (c : Core) (x : Supply) → CoreIs (withStop c x) x (c .settings)
-  pub settings : (c : Core) (x : Settings) → CoreIs (withSettings c x) (c .stop) x
+  pub stop : (c : Core) (x : Supply) → CoreIs (withSupply c Stop x) x (c .start) (c .deflection) (c .settings)
+  pub start : (c : Core) (x : Supply) → CoreIs (withSupply c Start x) (c .stop) x (c .deflection) (c .settings)
+  pub deflection : (c : Core) (x : Supply) → CoreIs (withSupply c Deflection x) (c .stop) (c .start) x (c .settings)
+  pub settings : (c : Core) (x : Settings) → CoreIs (withSettings c x) (c .stop) (c .start) (c .deflection) x
   pub parallel : (s : Settings) (x : Bool) → SettingsAre (withParallel s x) x (s .mask) (s .iel) (s .sensor)
   pub mask : (s : Settings) (x : ℕ) → SettingsAre (withMask s x) (s .parallel) x (s .iel) (s .sensor)
   pub iel : (s : Settings) (x : Iel) → SettingsAre (withIel s x) (s .parallel) (s .mask) x (s .sensor)

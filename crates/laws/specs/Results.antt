@@ -8,12 +8,13 @@ use Rattle.base.specs.Pick.{pick}
 use Rattle.crc.specs.Crc.{crcByte}
 use Rattle.supply.specs.declared.Change.{Change}
 use Rattle.supply.specs.declared.Change.the-variants as supply
+use Rattle.judge.specs.declared.Which.{Which}
 use Rattle.judge.specs.declared.Core.{Core}
 use Rattle.judge.specs.declared.Verdict.{Verdict}
 use Rattle.judge.specs.declared.Verdict.the-variants.{Apply, Deny}
 use Rattle.judge.specs.declared.Refusal.{Refusal}
 use Rattle.judge.specs.Refusals.{numberOf, raised}
-use Rattle.judge.specs.Records.{withStop}
+use Rattle.judge.specs.Records.{withSupply}
 use Rattle.rig.specs.declared.Faults.{Faults}
 use Rattle.rig.specs.declared.Pending.{Pending}
 use Rattle.rig.specs.declared.Rig.{Rig}
@@ -73,11 +74,11 @@ waiting r p = record { rig = blocked r p; reply = Plain Waiting }
 abbrev pub swallowed : Rig → ℕ → Taken
 swallowed r head = record { rig = droppedRig r head; reply = Swallowed }
 
--- by a verdict, and by what the supply answers
+-- by a verdict, and by what the supply x answers
 abbrev pub outcome : Rig → ℕ → Verdict → Taken
 outcome r high (Apply c) = accepted r c
 outcome r high (Deny why) = refused r high why
 
-abbrev pub supplied : Rig → ℕ → Change → Taken
-supplied r high (supply.Done s) = accepted r (withStop (r .core) s)
-supplied r high (supply.Refused why) = refused r high (raised why)
+abbrev pub supplied : Rig → ℕ → Which → Change → Taken
+supplied r high x (supply.Done s) = accepted r (withSupply (r .core) x s)
+supplied r high x (supply.Refused why) = refused r high (raised why)

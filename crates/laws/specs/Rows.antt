@@ -1,7 +1,8 @@
 -- The command table, row by row, as a reader checks it: each row lists its verdicts with the exact ground of each, in the order of the refusals.
--- Keeps 01 "Command words": its table, and the paragraphs on words with nothing pending and on pending blocks. Assumes nothing.
+-- Keeps 01 "Command words": its table, and the paragraphs on words with nothing pending and on pending blocks; 02 (iv): the rows of stop are those of
+-- each supply, with codes of its own. Assumes nothing.
 use mathlib.Core.Path.{_≡_}
-use mathlib.Core.Bool.{true, false}
+use mathlib.Core.Bool.{Bool, true, false}
 use mathlib.Core.Logic.{_⊎_}
 use Prim.Native.Nat.{ℕ, _+_, _*_, _/_, _%_, _<_, _≤_}
 use lib.Dec.{eqb}
@@ -10,12 +11,14 @@ use Rattle.supply.specs.declared.Change.{Change}
 use Rattle.supply.specs.declared.Refusal.the-variants as supply
 use Rattle.supply.specs.declared.RelayWord.the-variants.{On, Off, Bad}
 use Rattle.supply.specs.When.{RelayWhen, relaySet, TargetWhen, LimitWhen, StepWhen}
+use Rattle.judge.specs.declared.Which.{Which}
 use Rattle.judge.specs.declared.Core.{Core}
 use Rattle.judge.specs.declared.Sensor.{Sensor}
 use Rattle.judge.specs.declared.Verdict.{Verdict}
 use Rattle.judge.specs.declared.Verdict.the-variants.{Apply, Deny}
 use Rattle.judge.specs.declared.Refusal.the-variants.{StrayWord, RelayBits, WrongCheck, OutOfRange, WrongCount, UnknownCode}
-use Rattle.judge.specs.Records.{withStop, withSettings, withParallel, withMask, withIel, withSensor, withMux, withDirection, withEnergy}
+use Rattle.judge.specs.Records.{supplyAt, withSettings, withParallel, withMask, withIel, withSensor, withMux, withDirection, withEnergy}
+use Rattle.judge.specs.Table.{targetCode, limitCode, steppingCode}
 use Rattle.rig.specs.declared.Pending.{Pending}
 use Rattle.rig.specs.declared.Rig.{Rig}
 use Rattle.rig.specs.declared.Taken.{Taken}
@@ -44,21 +47,26 @@ pub record ExactlyOne {A : Type 0} (P Q : A → Type 0) : Type 0 where
   pub alone : (x : A) → P x → x ≡ one
   pub then : Q one
 
--- a row whose ground is the supply's: 28h, 29h, 2Dh. What the supply answers, and when, is said by its own tables.
-abbrev pub SupplyRow : (Rig → ℕ → Taken) → ℕ → (Supply → ℕ → Change → Type 0) → Type 0
-SupplyRow take code when =
+-- a row whose ground is the supply x: 28h, 29h, 2Dh for stop. What a supply answers, and when, is said by its own tables; it alone moves.
+abbrev pub SupplyRow : (Rig → ℕ → Taken) → ℕ → Which → (Supply → ℕ → Change → Type 0) → Type 0
+SupplyRow take code x when =
     (r : Rig) (low : ℕ) → low < 256 → Idle r
-    → ExactlyOne (when (r .core .stop) low) (λ ch. take r (single code low) ≡ supplied r code ch)
+    → ExactlyOne (when (supplyAt (r .core) x) low) (λ ch. take r (single code low) ≡ supplied r code x ch)
 
 -- a row of the core: 08h, 0Ch, 26h, 2Bh
 abbrev pub CoreRow : (Rig → ℕ → Taken) → ℕ → (Core → ℕ → Verdict → Type 0) → Type 0
 CoreRow take code when =
     (r : Rig) (low : ℕ) → low < 256 → Idle r → ExactlyOne (when (r .core) low) (λ v. take r (single code low) ≡ outcome r code v)
 
--- single 08h: whether on, off or neither hangs on the low byte alone; the supply is switched as its table says
+-- the relay is common: all three supplies are switched, each as its table says
+abbrev pub relaysSet : Core → Bool → Core
+relaysSet c on =
+    record { stop = relaySet (c .stop) on; start = relaySet (c .start) on; deflection = relaySet (c .deflection) on; settings = c .settings }
+
+-- single 08h: whether on, off or neither hangs on the low byte alone
 pub data SwitchWhen (c : Core) (low : ℕ) : Verdict → Type 0 where
-  on : RelayWhen low On → SwitchWhen c low (Apply (withStop c (relaySet (c .stop) true)))
-  off : RelayWhen low Off → SwitchWhen c low (Apply (withStop c (relaySet (c .stop) false)))
+  on : RelayWhen low On → SwitchWhen c low (Apply (relaysSet c true))
+  off : RelayWhen low Off → SwitchWhen c low (Apply (relaysSet c false))
   bits : RelayWhen low (Bad supply.RelayBits) → SwitchWhen c low (Deny RelayBits)
 
 -- single 0Ch: bit 0 IEL clock, bit 1 IEL enable; nothing else moves
@@ -79,10 +87,16 @@ pub data ModeWhen (c : Core) (low : ℕ) : Verdict → Type 0 where
 pub record Unlisted (code : ℕ) : Type 0 where
   pub not08 : code ≡ 0x08 → ⊥
   pub not0C : code ≡ 0x0C → ⊥
+  pub not20 : code ≡ 0x20 → ⊥
+  pub not21 : code ≡ 0x21 → ⊥
+  pub not22 : code ≡ 0x22 → ⊥
+  pub not23 : code ≡ 0x23 → ⊥
+  pub not24 : code ≡ 0x24 → ⊥
   pub not26 : code ≡ 0x26 → ⊥
   pub not28 : code ≡ 0x28 → ⊥
   pub not29 : code ≡ 0x29 → ⊥
   pub not2B : code ≡ 0x2B → ⊥
+  pub not2C : code ≡ 0x2C → ⊥
   pub not2D : code ≡ 0x2D → ⊥
 
 -- the core with other multiplexer word or windows, and nothing else moved
@@ -121,10 +135,11 @@ pub record RowLaws (take : Rig → ℕ → Taken) : Type 0 where
   pub relay08 : CoreRow take 0x08 SwitchWhen
   pub iel0C : CoreRow take 0x0C IelWhen
   pub mask26 : CoreRow take 0x26 MaskWhen
-  pub target28 : SupplyRow take 0x28 TargetWhen
-  pub limit29 : SupplyRow take 0x29 LimitWhen
   pub mode2B : CoreRow take 0x2B ModeWhen
-  pub stepping2D : SupplyRow take 0x2D StepWhen
+  -- and so is a single to each supply: 28h, 29h, 2Dh stop; 20h, 21h, 2Ch start; 23h, 24h, 22h deflection
+  pub target : (x : Which) → SupplyRow take (targetCode x) x TargetWhen
+  pub limit : (x : Which) → SupplyRow take (limitCode x) x LimitWhen
+  pub stepping : (x : Which) → SupplyRow take (steppingCode x) x StepWhen
   -- an unknown single is 0Fh
   pub unknown : (r : Rig) (code low : ℕ) → code < 64 → low < 256 → Idle r → Unlisted code → take r (single code low) ≡ refused r code UnknownCode
   -- a head with n over 79 is refused 0Eh, otherwise the block waits, n = 0 too

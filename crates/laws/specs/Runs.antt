@@ -1,5 +1,5 @@
 -- Runs of a rig from the start: any words, spins, settings, power cuts and frames, in any order and number; and what every run keeps.
--- Keeps 01 "Command words" (the counts and codes), "Spins and power", and the widths of "The 40-byte frame"; 02 (ii), the register. Assumes nothing.
+-- Keeps 01 "Command words" (the counts and codes), "Spins and power", and the widths of "The 40-byte frame"; 02 (ii), the register; 02 (iv), three supplies. Assumes nothing.
 use mathlib.Core.Path.{_≡_}
 use mathlib.Core.Bool.{Bool, true, false, _&&_, _||_}
 use mathlib.Core.List.{List, [], _∷_, _++_}
@@ -11,8 +11,11 @@ use Rattle.base.specs.Counts.{spinMore}
 use Rattle.crc.specs.Crc.{crcOf}
 use Rattle.frame.specs.Items.{heldAt}
 use Rattle.frame.specs.Read.{remOf, isPlain}
+use Rattle.judge.specs.declared.Which.{Which}
 use Rattle.judge.specs.declared.Sensor.{Sensor}
 use Rattle.judge.specs.Refusals.{numberOf}
+use Rattle.judge.specs.Records.{supplyAt}
+use Rattle.supply.specs.declared.Supply.{Supply}
 use Rattle.supply.specs.Laws.{Quiet, SpinMoves}
 use Rattle.power.specs.declared.PanelSetting.{PanelSetting}
 use Rattle.power.specs.declared.PanelSetting.the-variants.{Bias, Ground, FreeTime, Flap1, Flap2, Flap3}
@@ -213,13 +216,18 @@ pub record SensorBounds (x : Sensor) : Type 0 where
   pub energyStart : x .energy .start ≤ 31
   pub energyStop : x .energy .stop ≤ 31
 
+-- the bounds of a supply: target ≤ limit ≤ 15, level ≤ 15; nothing stands while the relay is off
+pub record SupplyBounds (s : Supply) : Type 0 where
+  pub target : s .target ≤ s .limit
+  pub limit : s .limit ≤ 15
+  pub level : s .level ≤ 15
+  pub off : Quiet s
+
 -- the bounds of every field
 pub record Bounds (r : Rig) : Type 0 where
-  -- the supply: target ≤ limit ≤ 15, level ≤ 15; nothing stands while the relay is off
-  pub target : r .core .stop .target ≤ r .core .stop .limit
-  pub limit : r .core .stop .limit ≤ 15
-  pub level : r .core .stop .level ≤ 15
-  pub off : Quiet (r .core .stop)
+  -- each supply; and the relay is common, so the three records agree on it
+  pub supply : (x : Which) → SupplyBounds (supplyAt (r .core) x)
+  pub relays : (x y : Which) → supplyAt (r .core) x .relay ≡ supplyAt (r .core) y .relay
   -- the settings
   pub mask : r .core .settings .mask ≤ 7
   -- what was ordered of the sensor, and its register
@@ -247,10 +255,10 @@ pub record Bounds (r : Rig) : Type 0 where
   pub latch : r .sending .latch < 0x100000000
   pub edbs : r .edbs .0 < 0x100000000
 
--- the rig q after a spin of the rig r: the supply's level goes one towards its target if relay and stepping are on, the register is what was ordered,
+-- the rig q after a spin of the rig r: each supply's level goes one towards its target if relay and stepping are on, the register is what was ordered,
 -- the counter adds one; nothing else moves
 pub record Spun (r q : Rig) : Type 0 where
-  pub stop : SpinMoves (r .core .stop) (q .core .stop)
+  pub supply : (x : Which) → SpinMoves (supplyAt (r .core) x) (supplyAt (q .core) x)
   pub register : q .register ≡ r .core .settings .sensor
   pub edbs : q .edbs ≡ spinMore (r .edbs)
   pub settings : q .core .settings ≡ r .core .settings

@@ -53,7 +53,7 @@ pub words-in : (row : ℕ) → row < rows → wordsOf (nameOf row) ≡ nameWords
 unfolding nameOf nameWords
 words-in row h =
     each (λ (k : ℕ). wordsOf (nameOf k) ≡ nameWords k) rows
-    (((((((((((((tt, padded 0 12 tt), padded 1 11 tt), padded 2 10 tt), padded 3 7 tt), padded 4 11 tt), padded 5 9 tt), padded 6 10 tt), padded 7 16 tt), padded 8 7 tt), padded 9 17 tt), padded 10 8 tt), padded 11 4 tt), padded 12 7 tt) row h
+    (((((((((((((((((((tt, padded 0 12 tt), padded 1 11 tt), padded 2 10 tt), padded 3 7 tt), padded 4 11 tt), padded 5 9 tt), padded 6 10 tt), padded 7 7 tt), padded 8 8 tt), padded 9 9 tt), padded 10 6 tt), padded 11 3 tt), padded 12 4 tt), padded 13 1 tt), padded 14 16 tt), padded 15 17 tt), padded 16 8 tt), padded 17 4 tt), padded 18 7 tt) row h
 
 -- a name takes twenty bytes
 room : (row : ℕ) → length (nameOf row) ≡ 20
@@ -63,11 +63,11 @@ room row = let n = length-append (spoken (nameWords row)) (replicate 20 space) i
 -- past the last row there is no name
 past : (row : ℕ) → rows ≤ row → nameOf row ≡ replicate 20 space
 unfolding nameOf nameWords
-past row h = let n : row ≡ 13 + (row - 13) = omega arith in rw n (rw (getD-append-add names [] (row - 13) []))
+past row h = let n : row ≡ rows + (row - rows) = omega arith in rw n (rw (getD-append-add names [] (row - rows) []))
 
 pub no-name : (row : ℕ) → rows ≤ row → nameWords row ≡ []
 unfolding nameWords
-no-name row h = let n : row ≡ 13 + (row - 13) = omega arith in rw n (getD-append-add names [] (row - 13) [])
+no-name row h = let n : row ≡ rows + (row - rows) = omega arith in rw n (getD-append-add names [] (row - rows) [])
 
 -- the words of a row's twenty bytes, past the last row too
 pub words-at : (row : ℕ) → wordsOf (nameOf row) ≡ nameWords row
@@ -83,12 +83,12 @@ at-most-two row =
     split (ltb row rows)
     (λ e.
     each (λ (k : ℕ). length (nameWords k) ≤ 2) rows
-    (((((((((((((tt, omega arith), omega arith), omega arith), omega arith), omega arith), omega arith), omega arith), omega arith), omega arith), omega arith), omega arith), omega arith), omega arith)
+    (((((((((((((((((((tt, omega arith), omega arith), omega arith), omega arith), omega arith), omega arith), omega arith), omega arith), omega arith), omega arith), omega arith), omega arith), omega arith), omega arith), omega arith), omega arith), omega arith), omega arith), omega arith)
     row (ltb-true row rows e))
     (λ e. rw (no-name row (ltb-false row rows e)) (omega arith))
 
 abbrev pub numbers : List ℕ
-numbers = 0 ∷ 1 ∷ 2 ∷ 3 ∷ 4 ∷ 5 ∷ 6 ∷ 7 ∷ 8 ∷ 9 ∷ 10 ∷ 11 ∷ 12 ∷ []
+numbers = 0 ∷ 1 ∷ 2 ∷ 3 ∷ 4 ∷ 5 ∷ 6 ∷ 7 ∷ 8 ∷ 9 ∷ 10 ∷ 11 ∷ 12 ∷ 13 ∷ 14 ∷ 15 ∷ 16 ∷ 17 ∷ 18 ∷ []
 
 -- the names one after the other, and the name in each row of them
 pub in-row : (row : ℕ) → nameIn (text nameOf numbers) row ≡ nameOf row
@@ -97,14 +97,14 @@ in-row row =
     split (ltb row rows)
     (λ e.
     let h = ltb-true row rows e in
-    named nameOf room numbers 0 row row row refl h (each (λ (k : ℕ). getD numbers k 0 ≡ k) rows (((((((((((((tt, refl), refl), refl), refl), refl), refl), refl), refl), refl), refl), refl), refl), refl) row h))
+    named nameOf room numbers 0 row row row refl h (each (λ (k : ℕ). getD numbers k 0 ≡ k) rows (((((((((((((((((((tt, refl), refl), refl), refl), refl), refl), refl), refl), refl), refl), refl), refl), refl), refl), refl), refl), refl), refl), refl) row h))
     (λ e. rw e (sym (past row (ltb-false row rows e))))
 
 pub found : Found
 unfolding findOf seek nameWords
 found row h next =
     each (λ (k : ℕ). findOf (getD (nameWords k) 0 []) (getD (nameWords k ++ (next ∷ [])) 1 []) ≡ k) rows
-    (((((((((((((tt, refl), refl), refl), refl), refl), refl), refl), refl), refl), refl), refl), refl), refl) row h
+    (((((((((((((((((((tt, refl), refl), refl), refl), refl), refl), refl), refl), refl), refl), refl), refl), refl), refl), refl), refl), refl), refl), refl) row h
 
 -- No name begins with a digit or a capital letter: so a word in hex, as it is written, names no row.
 other : (b x : ℕ) → b < 0x64 → 0x64 ≤ x → eqb b x ≡ false
@@ -115,7 +115,7 @@ unfolding nameWords
 not-called row h b t second l =
     let n : (x : ℕ) → 0x64 ≤ x → eqb b x ≡ false = λ x k. other b x l k in
     each (λ (k : ℕ). called (nameWords k) (b ∷ t) second ≡ false) rows
-    (((((((((((((tt, rw (n 0x72 (omega arith))), rw (n 0x72 (omega arith))), rw (n 0x72 (omega arith))), rw (n 0x72 (omega arith))), rw (n 0x68 (omega arith))), rw (n 0x73 (omega arith))), rw (n 0x73 (omega arith))), rw (n 0x6D (omega arith))), rw (n 0x73 (omega arith))), rw (n 0x69 (omega arith))), rw (n 0x6D (omega arith))), rw (n 0x64 (omega arith))), rw (n 0x65 (omega arith)))
+    (((((((((((((((((((tt, rw (n 0x72 (omega arith))), rw (n 0x72 (omega arith))), rw (n 0x72 (omega arith))), rw (n 0x72 (omega arith))), rw (n 0x68 (omega arith))), rw (n 0x73 (omega arith))), rw (n 0x73 (omega arith))), rw (n 0x73 (omega arith))), rw (n 0x73 (omega arith))), rw (n 0x73 (omega arith))), rw (n 0x73 (omega arith))), rw (n 0x64 (omega arith))), rw (n 0x64 (omega arith))), rw (n 0x64 (omega arith))), rw (n 0x6D (omega arith))), rw (n 0x69 (omega arith))), rw (n 0x6D (omega arith))), rw (n 0x64 (omega arith))), rw (n 0x65 (omega arith)))
     row h
 
 none-from : (left row : ℕ) → row + left ≡ rows → (b : ℕ) (t second : List ℕ) → b < 0x64 → seek left row (b ∷ t) second ≡ rows

@@ -11,7 +11,7 @@ use Rattle.spelling.specs.Same.{same}
 use Rattle.splitting.specs.Words.{space, spoken}
 
 abbrev pub rows : ℕ
-rows = 13
+rows = 19
 
 -- The names, word by word.
 abbrev pub names : List (List (List ℕ))
@@ -23,8 +23,14 @@ names =
     ∷ (ascii "head" ∷ ascii "mask" ∷ [])
     ∷ (ascii "stop" ∷ ascii "target" ∷ [])
     ∷ (ascii "stop" ∷ ascii "limit" ∷ [])
-    ∷ (ascii "mode" ∷ [])
     ∷ (ascii "stop" ∷ ascii "stepping" ∷ [])
+    ∷ (ascii "start" ∷ ascii "target" ∷ [])
+    ∷ (ascii "start" ∷ ascii "limit" ∷ [])
+    ∷ (ascii "start" ∷ ascii "stepping" ∷ [])
+    ∷ (ascii "deflection" ∷ ascii "target" ∷ [])
+    ∷ (ascii "deflection" ∷ ascii "limit" ∷ [])
+    ∷ (ascii "deflection" ∷ ascii "stepping" ∷ [])
+    ∷ (ascii "mode" ∷ [])
     ∷ (ascii "iel" ∷ [])
     ∷ (ascii "multiplexers" ∷ [])
     ∷ (ascii "direction" ∷ ascii "window" ∷ [])

@@ -1,5 +1,5 @@
 // The names of the menu's rows, and the row that the first words of a line name.
-// Keeps 02 (i): a named command. A name is one word or two.
+// Keeps 02 (i): a named command; (iv): the rows of one supply behind those of another, each with target, limit, stepping. A name is one word or two.
 ghost use mathlib.Core.Path.{_≡_};
 ghost use Prim.Native.Nat.{_≤_};
 ghost use lib.ListN.{length};
@@ -7,7 +7,7 @@ ghost use Rattle.splitting.specs.Words.{wordsOf};
 ghost use Rattle.menu_names.specs.Names.{nameWords, nameOf, called, findOf};
 use names::NAME;
 
-pub const ROWS: usize = 13;
+pub const ROWS: usize = 19;
 
 // The name of a row, and blanks behind it; blanks alone past the last.
 pub fn name_of(row: usize) -> [u8; NAME]
@@ -15,7 +15,8 @@ pub fn name_of(row: usize) -> [u8; NAME]
 {
     let names: &[u8] =
         b"relay on            relay off           relay both          relay neither       head mask           \
-        stop target         stop limit          mode                stop stepping       iel                 \
+        stop target         stop limit          stop stepping       start target        start limit         start stepping      \
+        deflection target   deflection limit    deflection stepping mode                iel                 \
         multiplexers        direction window    energy window       ";
     names::name_in(names, row)
 }

@@ -1,7 +1,10 @@
 // The rows of the menu, from which the class picks: the command of a row with its settings, and the row of a command.
-// Keeps 02 (i): a named command with its settings. The relay has a row for each setting of its two bits, so that no number is typed for it.
+// Keeps 02 (i): a named command with its settings; (iv): three rows for each supply. The relay has a row for each setting of its two bits, so that no
+// number is typed for it.
 ghost use mathlib.Core.Path.{_≡_};
-ghost use Rattle.menu_rows.specs.Rows.{wanted, made, relayRow, entryAt, entryOf};
+ghost use Prim.Native.Nat.{_≤_};
+ghost use Rattle.menu_rows.specs.Rows.{wanted, made, relayRow, firstRow, entryAt, entryOf};
+use judge::Which;
 use wording::Command;
 
 // A command as it stands in the menu: its row, and its settings, 0 where it has none.
@@ -18,7 +21,7 @@ pub fn settings(row: usize) -> usize
     if row < 4 {
         return 0;
     }
-    if row < 9 {
+    if row < 15 {
         return 1;
     }
     2
@@ -34,13 +37,19 @@ pub fn command(row: usize, a: u8, b: u8) -> Command
         2 => Command::Relay(1, 1),
         3 => Command::Relay(0, 0),
         4 => Command::HeadMask(a),
-        5 => Command::Target(a),
-        6 => Command::Limit(a),
-        7 => Command::Mode(a),
-        8 => Command::Stepping(a),
-        9 => Command::Iel(a, b),
-        10 => Command::Multiplexers(a, b),
-        11 => Command::DirectionWindow(a, b),
+        5 => Command::Target(Which::Stop, a),
+        6 => Command::Limit(Which::Stop, a),
+        7 => Command::Stepping(Which::Stop, a),
+        8 => Command::Target(Which::Start, a),
+        9 => Command::Limit(Which::Start, a),
+        10 => Command::Stepping(Which::Start, a),
+        11 => Command::Target(Which::Deflection, a),
+        12 => Command::Limit(Which::Deflection, a),
+        13 => Command::Stepping(Which::Deflection, a),
+        14 => Command::Mode(a),
+        15 => Command::Iel(a, b),
+        16 => Command::Multiplexers(a, b),
+        17 => Command::DirectionWindow(a, b),
         _ => Command::EnergyWindow(a, b),
     }
 }
@@ -60,6 +69,17 @@ fn relay_row(on: u8, off: u8) -> usize
     3
 }
 
+// The row of a supply's target; its limit and its stepping stand in the next two.
+fn first_row(which: Which) -> usize
+    ensures { λ r. ⌜ (r ≡ firstRow which) × (r ≤ 11) ⌝ }
+{
+    match which {
+        Which::Stop => 5,
+        Which::Start => 8,
+        Which::Deflection => 11,
+    }
+}
+
 fn at_row(row: usize, first: u8, second: u8) -> Entry
     ensures { λ r. ⌜ r ≡ entryAt row first second ⌝ }
 {
@@ -73,13 +93,13 @@ pub fn entry_of(c: Command) -> Entry
     match c {
         Command::Relay(on, off) => at_row(relay_row(on, off), 0, 0),
         Command::HeadMask(mask) => at_row(4, mask, 0),
-        Command::Target(target) => at_row(5, target, 0),
-        Command::Limit(limit) => at_row(6, limit, 0),
-        Command::Mode(low) => at_row(7, low, 0),
-        Command::Stepping(low) => at_row(8, low, 0),
-        Command::Iel(clock, enable) => at_row(9, clock, enable),
-        Command::Multiplexers(byte, bit) => at_row(10, byte, bit),
-        Command::DirectionWindow(start, stop) => at_row(11, start, stop),
-        Command::EnergyWindow(start, stop) => at_row(12, start, stop),
+        Command::Target(x, target) => at_row(first_row(x), target, 0),
+        Command::Limit(x, limit) => at_row(first_row(x) + 1, limit, 0),
+        Command::Stepping(x, low) => at_row(first_row(x) + 2, low, 0),
+        Command::Mode(low) => at_row(14, low, 0),
+        Command::Iel(clock, enable) => at_row(15, clock, enable),
+        Command::Multiplexers(byte, bit) => at_row(16, byte, bit),
+        Command::DirectionWindow(start, stop) => at_row(17, start, stop),
+        Command::EnergyWindow(start, stop) => at_row(18, start, stop),
     }
 }

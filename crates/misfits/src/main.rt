@@ -1,5 +1,6 @@
 // What is refused: 25 a setting too wide, 26 too little room, 38 words that are not one command of 01. Then words that are read, though a rig may refuse them.
-// Keeps 02 (i), run by the compiled code; what is printed is held to the file `stdout`.
+// Keeps 02 (i) and (iv), run by the compiled code; what is printed is held to the file `stdout`.
+use judge::Which;
 use wording::Command;
 use wording::Meant;
 use wording::Refusal;
@@ -54,7 +55,7 @@ fn put(c: Command, room: usize) {
     write(c, room);
 }
 
-// A setting one too wide: those of 2Bh and 2Dh and the first of 20h are a whole byte. The menu has no row for such relay bits.
+// A setting one too wide: those of mode and stepping and the first of block 20h are a whole byte. The menu has no row for such relay bits.
 fn all_wide() {
     printing::text(b"relay bits 2 0");
     write(Command::Relay(2, 0), 4);
@@ -63,8 +64,12 @@ fn all_wide() {
     put(Command::Iel(2, 0), 4);
     put(Command::Iel(0, 2), 4);
     put(Command::HeadMask(8), 4);
-    put(Command::Target(16), 4);
-    put(Command::Limit(16), 4);
+    put(Command::Target(Which::Stop, 16), 4);
+    put(Command::Limit(Which::Stop, 16), 4);
+    put(Command::Target(Which::Start, 16), 4);
+    put(Command::Limit(Which::Start, 16), 4);
+    put(Command::Target(Which::Deflection, 16), 4);
+    put(Command::Limit(Which::Deflection, 16), 4);
     put(Command::Multiplexers(255, 2), 4);
     put(Command::DirectionWindow(32, 0), 4);
     put(Command::DirectionWindow(0, 32), 4);
@@ -76,8 +81,12 @@ fn all_wide() {
 fn all_narrow() {
     put(Command::Relay(1, 0), 0);
     put(Command::Relay(1, 0), 1);
-    put(Command::Stepping(1), 0);
-    put(Command::Stepping(1), 1);
+    put(Command::Stepping(Which::Stop, 1), 0);
+    put(Command::Stepping(Which::Stop, 1), 1);
+    put(Command::Stepping(Which::Start, 1), 0);
+    put(Command::Stepping(Which::Start, 1), 1);
+    put(Command::Stepping(Which::Deflection, 1), 0);
+    put(Command::Stepping(Which::Deflection, 1), 1);
     put(Command::Multiplexers(1, 0), 3);
     put(Command::Multiplexers(1, 0), 4);
     put(Command::DirectionWindow(1, 0), 3);
@@ -150,9 +159,24 @@ fn all_read() {
     read_four(0x6402, 0xA4E1, 0xA4E0, 0xE4F8);
 }
 
+// The same of the start and the deflection supply. 20h, 23h and 24h are other commands as blocks, and 21h, 22h and 2Ch are none.
+fn all_others() {
+    read_one(0x2C07);
+    read_one(0x2207);
+    read_one(0x20F5);
+    read_one(0x21FA);
+    read_one(0x23F5);
+    read_one(0x24FA);
+    read_four(0x6002, 0xA001, 0xA000, 0xE015);
+    read_four(0x6302, 0xA301, 0xA300, 0xE315);
+    read_four(0x6102, 0xA101, 0xA100, 0xE115);
+    read_four(0x6C02, 0xAC01, 0xAC00, 0xEC15);
+}
+
 fn main() {
     all_wide();
     all_narrow();
     all_unread();
     all_read();
+    all_others();
 }

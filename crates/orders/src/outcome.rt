@@ -1,5 +1,5 @@
 // What one command of the menu comes to: refused by the writer, or written and handed to a party, the reader or a rig.
-// Keeps 02 (i). An outcome is the number of a refusal, or one of those named here.
+// Keeps 02 (i) and (iv). An outcome is the number of a refusal, or one of those named here.
 use crate::trying;
 use menu_rows::Entry;
 use wording::Wrote;
@@ -14,7 +14,7 @@ pub(crate) const OTHER: u8 = 17;
 // Not written: a rig has nothing to answer. Above all others, and not told.
 pub(crate) const NONE: u8 = 255;
 
-// The parties: the reader, a rig as it starts, and one with relay and stepping on and limit 10.
+// The parties: the reader, a rig as it starts, and one with relay and stepping on and limits 10, 7 and 3.
 pub(crate) const READER: u8 = 0;
 
 pub(crate) const FRESH: u8 = 1;

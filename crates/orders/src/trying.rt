@@ -24,11 +24,17 @@ pub(crate) fn sent(rig: Rig, list: &[u16]) -> u8 {
     last
 }
 
-// Relay on, stepping on, limit 10.
+fn two(rig: Rig, first: u16, second: u16) -> Rig {
+    let one = words::take(rig, first).rig;
+    words::take(one, second).rig
+}
+
+// Relay on; of each supply stepping on, and a limit of its own: stop 10, start 7, deflection 3.
 pub(crate) fn ready_rig() -> Rig {
     let on = words::take(rig::start(), 0x0802).rig;
-    let steps = words::take(on, 0x2D01).rig;
-    words::take(steps, 0x290A).rig
+    let stop = two(on, 0x2D01, 0x290A);
+    let start = two(stop, 0x2C01, 0x2107);
+    two(start, 0x2201, 0x2403)
 }
 
 // The first words of a buffer, or all where there are fewer.

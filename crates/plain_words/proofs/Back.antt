@@ -21,11 +21,12 @@ use Rattle.wording.specs.declared.Command.the-variants.{Relay, Iel, HeadMask, T
 use Rattle.wording.proofs.Sent.{two-bits, fits-one, fits-two}
 use Rattle.menu_names.specs.Names.{rows, nameWords, findOf}
 use Rattle.menu_names.proofs.Rows.{each, found}
-use Rattle.menu_rows.specs.Rows.{wanted, made, entryOf}
+use Rattle.menu_rows.specs.Rows.{wanted, made, firstRow, entryOf}
+use Rattle.menu_rows.proofs.Laws.{in-menu, takes-one, supply-back}
 use Rattle.asking.specs.declared.Asked.the-variants.{Order}
 use Rattle.asking.specs.declared.Setting.the-variants.{Byte}
 use Rattle.asking.specs.Asks.{settingOf, orderOf, askOf}
-use Rattle.plain_words.specs.Plain.{plainWords, plainOf, ThereAndBack}
+use Rattle.plain_words.specs.Plain.{numbersSaid, plainWords, plainOf, ThereAndBack}
 
 -- a number has no space in it
 no-space-end : (w : List ℕ) (b : ℕ) → NoSpace w → (b ≡ space → ⊥) → NoSpace (w ++ (b ∷ []))
@@ -58,7 +59,7 @@ name-spells : (row : ℕ) → row < rows → Spellable (nameWords row)
 unfolding nameWords
 name-spells row h =
     each (λ (k : ℕ). Spellable (nameWords k)) rows
-    (((((((((((((tt, ok 0 tt), ok 1 tt), ok 2 tt), ok 3 tt), ok 4 tt), ok 5 tt), ok 6 tt), ok 7 tt), ok 8 tt), ok 9 tt), ok 10 tt), ok 11 tt), ok 12 tt) row h
+    (((((((((((((((((((tt, ok 0 tt), ok 1 tt), ok 2 tt), ok 3 tt), ok 4 tt), ok 5 tt), ok 6 tt), ok 7 tt), ok 8 tt), ok 9 tt), ok 10 tt), ok 11 tt), ok 12 tt), ok 13 tt), ok 14 tt), ok 15 tt), ok 16 tt), ok 17 tt), ok 18 tt) row h
   where
     ok : (k : ℕ) → T (canSpell (nameWords k)) → Spellable (nameWords k)
     ok k t = spellable (nameWords k) t
@@ -77,7 +78,7 @@ some-word : (row : ℕ) → row < rows → 0 < length (nameWords row)
 unfolding nameWords
 some-word row h =
     each (λ (k : ℕ). 0 < length (nameWords k)) rows
-    (((((((((((((tt, omega arith), omega arith), omega arith), omega arith), omega arith), omega arith), omega arith), omega arith), omega arith), omega arith), omega arith), omega arith), omega arith)
+    (((((((((((((((((((tt, omega arith), omega arith), omega arith), omega arith), omega arith), omega arith), omega arith), omega arith), omega arith), omega arith), omega arith), omega arith), omega arith), omega arith), omega arith), omega arith), omega arith), omega arith), omega arith)
     row h
 
 module _ (row : ℕ) (h : row < rows) (vs : List (List ℕ)) where
@@ -100,9 +101,10 @@ none-typed : (row : ℕ) → row < rows → wanted row ≡ 0 → askOf (wordsOf 
 unfolding orderOf
 none-typed row h e = typed row h [] tt ∙ rw e
 
-one-typed : (row a : ℕ) → row < rows → wanted row ≡ 1 → a < 256 → askOf (wordsOf (spoken (nameWords row ++ (decimal a ∷ [])))) ≡ Order (made row a 0)
+one-typed : (row a : ℕ) → row < rows → wanted row ≡ 1 → a < 256
+    → askOf (wordsOf (spoken (nameWords row ++ numbersSaid (wanted row) a 0))) ≡ Order (made row a 0)
 unfolding orderOf
-one-typed row a h e l = typed row h (decimal a ∷ []) (some-digit a, no-space a, tt) ∙ rw e (rw (setting-back a l))
+one-typed row a h e l = rw e (typed row h (decimal a ∷ []) (some-digit a, no-space a, tt) ∙ rw e (rw (setting-back a l)))
 
 two-typed : (row a b : ℕ) → row < rows → wanted row ≡ 2 → a < 256 → b < 256
     → askOf (wordsOf (spoken (nameWords row ++ (decimal a ∷ decimal b ∷ [])))) ≡ Order (made row a b)
@@ -117,11 +119,16 @@ there-and-back (Relay on off) f =
     two-bits (λ x y. askOf (wordsOf (plainOf (Relay x y))) ≡ Order (Relay x y))
     (none-typed 3 (omega arith) refl) (none-typed 1 (omega arith) refl) (none-typed 0 (omega arith) refl) (none-typed 2 (omega arith) refl) on off (h .0) (h .1)
 there-and-back (HeadMask mask) f = let h = fits-one mask 8 f in one-typed 4 mask (omega arith) refl (omega arith)
-there-and-back (Target target) f = let h = fits-one target 16 f in one-typed 5 target (omega arith) refl (omega arith)
-there-and-back (Limit limit) f = let h = fits-one limit 16 f in one-typed 6 limit (omega arith) refl (omega arith)
-there-and-back (Mode low) f = one-typed 7 low (omega arith) refl (fits-one low 256 f)
-there-and-back (Stepping low) f = one-typed 8 low (omega arith) refl (fits-one low 256 f)
-there-and-back (Iel clock enable) f = let h = fits-two clock 2 enable 2 f in two-typed 9 clock enable (omega arith) refl (omega arith) (omega arith)
-there-and-back (Multiplexers byte bit) f = let h = fits-two byte 256 bit 2 f in two-typed 10 byte bit (omega arith) refl (h .0) (omega arith)
-there-and-back (DirectionWindow start stop) f = let h = fits-two start 32 stop 32 f in two-typed 11 start stop (omega arith) refl (omega arith) (omega arith)
-there-and-back (EnergyWindow start stop) f = let h = fits-two start 32 stop 32 f in two-typed 12 start stop (omega arith) refl (omega arith) (omega arith)
+there-and-back (Target x target) f =
+    let h = fits-one target 16 f in
+    one-typed (firstRow x) target (omega (arith, in-menu x)) (takes-one x .0) (omega arith) ∙ ap Order (supply-back x target .0)
+there-and-back (Limit x limit) f =
+    let h = fits-one limit 16 f in
+    one-typed (firstRow x + 1) limit (omega (arith, in-menu x)) (takes-one x .1) (omega arith) ∙ ap Order (supply-back x limit .1)
+there-and-back (Mode low) f = one-typed 14 low (omega arith) refl (fits-one low 256 f)
+there-and-back (Stepping x low) f =
+    one-typed (firstRow x + 2) low (in-menu x) (takes-one x .2) (fits-one low 256 f) ∙ ap Order (supply-back x low .2)
+there-and-back (Iel clock enable) f = let h = fits-two clock 2 enable 2 f in two-typed 15 clock enable (omega arith) refl (omega arith) (omega arith)
+there-and-back (Multiplexers byte bit) f = let h = fits-two byte 256 bit 2 f in two-typed 16 byte bit (omega arith) refl (h .0) (omega arith)
+there-and-back (DirectionWindow start stop) f = let h = fits-two start 32 stop 32 f in two-typed 17 start stop (omega arith) refl (omega arith) (omega arith)
+there-and-back (EnergyWindow start stop) f = let h = fits-two start 32 stop 32 f in two-typed 18 start stop (omega arith) refl (omega arith) (omega arith)

@@ -17,6 +17,7 @@ use Rattle.wording.specs.declared.Command.the-variants.{Relay, Iel, HeadMask, T
 use Rattle.menu_names.specs.Names.{rows, nameWords, nameOf}
 use Rattle.menu_names.proofs.Rows.{each, words-at, no-name}
 use Rattle.menu_rows.specs.Rows.{wanted, relayRow, entryOf}
+use Rattle.menu_rows.proofs.Laws.{in-menu as rows-in-menu}
 use Rattle.plain_words.specs.Plain.{numbersSaid, plainWords, plainOf, settingsSaid}
 
 -- names of one word and of two
@@ -38,7 +39,7 @@ name-short row =
     split (ltb row rows)
     (λ e.
     each (λ (k : ℕ). length (spoken (nameWords k)) ≤ 20) rows
-    (((((((((((((tt, omega arith), omega arith), omega arith), omega arith), omega arith), omega arith), omega arith), omega arith), omega arith), omega arith), omega arith), omega arith), omega arith)
+    (((((((((((((((((((tt, omega arith), omega arith), omega arith), omega arith), omega arith), omega arith), omega arith), omega arith), omega arith), omega arith), omega arith), omega arith), omega arith), omega arith), omega arith), omega arith), omega arith), omega arith), omega arith)
     row (ltb-true row rows e))
     (λ e. rw (no-name row (ltb-false row rows e)) (omega arith))
 
@@ -71,7 +72,7 @@ some-name : (row : ℕ) → row < rows → nameWords row ≡ getD (nameWords row
 unfolding nameWords
 some-name row h =
     each (λ (k : ℕ). nameWords k ≡ getD (nameWords k) 0 [] ∷ drop 1 (nameWords k)) rows
-    (((((((((((((tt, refl), refl), refl), refl), refl), refl), refl), refl), refl), refl), refl), refl), refl) row h
+    (((((((((((((((((((tt, refl), refl), refl), refl), refl), refl), refl), refl), refl), refl), refl), refl), refl), refl), refl), refl), refl), refl), refl) row h
 
 relay-row : (a b : Bool) → pick a (pick b 2 0) (pick b 1 3) < rows
 relay-row true true = omega arith
@@ -83,10 +84,10 @@ pub in-menu : (c : Command) → entryOf c .row < rows
 in-menu (Relay on off) = relay-row (eqb on 1) (eqb off 1)
 in-menu (Iel clock enable) = omega arith
 in-menu (HeadMask mask) = omega arith
-in-menu (Target target) = omega arith
-in-menu (Limit limit) = omega arith
+in-menu (Target x target) = omega (arith, rows-in-menu x)
+in-menu (Limit x limit) = omega (arith, rows-in-menu x)
 in-menu (Mode low) = omega arith
-in-menu (Stepping low) = omega arith
+in-menu (Stepping x low) = rows-in-menu x
 in-menu (Multiplexers byte bit) = omega arith
 in-menu (DirectionWindow start stop) = omega arith
 in-menu (EnergyWindow start stop) = omega arith

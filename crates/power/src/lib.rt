@@ -1,5 +1,5 @@
 // Power cuts, spins, and the instructor's settings.
-// Keeps 01 "Spins and power" and 02 (ii), the register. The spin is carried out on the supply's record.
+// Keeps 01 "Spins and power", 02 (ii), the register, and 02 (iv), three supplies. The spin is carried out on each supply's record.
 ghost use mathlib.Core.Path.{_≡_};
 ghost use Rattle.power.specs.Power.{spunOf, cutOf, panelOf, setOf};
 use rig::Panel;
@@ -22,15 +22,18 @@ pub fn power_cut(rig: Rig) -> Rig
     rig::start()
 }
 
-// A spin: on the supply's record; what was ordered goes into the sensor's register, whatever else holds; one more on the long EDB counter.
+// A spin: on each supply's record; what was ordered goes into the sensor's register, whatever else holds; one more on the long EDB counter.
 pub fn spin(rig: Rig) -> Rig
     ensures { λ r. ⌜ r ≡ spunOf rig ⌝ }
 {
     let ordered = rig.core.settings.sensor;
     let mut core = rig.core;
-    let was = core.stop;
-    let s = stepping::spun(was);
-    core.stop = s;
+    let stop = core.stop;
+    let start = core.start;
+    let deflection = core.deflection;
+    core.stop = stepping::spun(stop);
+    core.start = stepping::spun(start);
+    core.deflection = stepping::spun(deflection);
     let edbs = base::spin_more(rig.edbs);
     let mut next = rig;
     next.core = core;

@@ -1,5 +1,5 @@
 // What a frame tells of an item, read by one table.
-// Keeps 01 "The 40-byte frame". What stands in each byte, and what is read out of it, is said in crate `frame`.
+// Keeps 01 "The 40-byte frame" and 02 (iv). What stands in each byte, and what is read out of it, is said in crate `frame`.
 ghost use mathlib.Core.Path.{_≡_};
 ghost use Prim.Native.Nat.{_+_, _*_, _/_, _%_, _<_};
 ghost use lib.ListN.{length, getD};
@@ -66,6 +66,12 @@ fn spot_of(item: Item) -> Spot
         Item::HeadMask => stands(38, 0x10, 8, 32, 31, 0),
         Item::LongCounter => stands(38, 0x01, 256, 32, 3, 3),
         Item::FreeTime => stands(38, 0x01, 256, 32, 28, 1),
+        Item::StartStepping => stands(36, 0x20, 2, 4, 0, 0),
+        Item::StartLimit => stands(36, 0x01, 16, 4, 2, 0),
+        Item::StartLevel => stands(36, 0x01, 16, 4, 3, 0),
+        Item::DeflectionStepping => stands(36, 0x40, 2, 4, 0, 0),
+        Item::DeflectionLimit => stands(36, 0x10, 16, 4, 1, 0),
+        Item::DeflectionLevel => stands(36, 0x01, 16, 4, 1, 0),
     }
 }
 

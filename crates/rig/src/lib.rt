@@ -55,18 +55,18 @@ pub struct Sending {
     pub next: u8,
 }
 
-// No padding stands between the fields, here or in the two records above: it would be copied with the rig at every word. The order is measured: with the
-// panel before the register a word takes half as long again (docs/FIGURES.md).
+// No padding stands between the fields, here or in the two records above: it would be copied with the rig at every word. The order is measured: many
+// another one makes a word take twice as long (docs/FIGURES.md).
 // `core.settings.sensor` is what was ordered; `register` is the sensor's own, which a spin copies from it and frames show (02 (ii)).
 pub struct Rig {
     pub edbs: Spins,
     pub sending: Sending,
-    pub register: Sensor,
     pub core: Core,
-    pub faults: Faults,
     pub pending: Pending,
-    pub check: u8,
     pub panel: Panel,
+    pub check: u8,
+    pub faults: Faults,
+    pub register: Sensor,
 }
 
 // What a word does, by its kind and the block that waits, if one does: it is kept, closes the block, is swallowed with it, or is judged afresh.
@@ -127,7 +127,7 @@ pub fn nothing_pending() -> Pending
 fn start_core() -> Core
     ensures { λ r. ⌜ r ≡ startCore ⌝ }
 {
-    let stop = Supply {
+    let off = Supply {
         relay: false,
         stepping: false,
         level: 0,
@@ -152,7 +152,12 @@ fn start_core() -> Core
         },
         sensor,
     };
-    Core { stop, settings }
+    Core {
+        stop: off,
+        start: off,
+        deflection: off,
+        settings,
+    }
 }
 
 // The start, to which a power cut returns. The register is as clear as what is ordered: all 0.

@@ -1,4 +1,4 @@
--- What the rig shows in a frame, and what building one does to it (01, "The 40-byte frame"; 02 (ii), the register). Rig and frame meet here alone.
+-- What the rig shows in a frame, and what building one does to it (01, "The 40-byte frame"; 02 (ii), the register; 02 (iv), three supplies). Rig and frame meet here alone.
 -- Assumes nothing.
 use Prim.Native.Nat.{ℕ, _+_, _/_, _%_}
 use mathlib.Core.Bool.{Bool}
@@ -17,12 +17,14 @@ abbrev pub bit : Bool → ℕ
 bit b = pick b 1 0
 
 -- What the rig holds of each item. Windows and multiplexers are those of the sensor's register, not what was ordered; E multiplexers 1-3 are the bits
--- 01, 08, 40 of byte 1 of block 20h. The reduced number is the EDB counter minus 1, modulo 64.
+-- 01, 08, 40 of byte 1 of block 20h. The reduced number is the EDB counter minus 1, modulo 64. The relay is common: stop's record tells it.
 abbrev pub heldOf : Rig → Held
 heldOf r =
     let settings = r .core .settings in
     let sensor = r .register in
-    let supply = r .core .stop in
+    let stop = r .core .stop in
+    let start = r .core .start in
+    let deflection = r .core .deflection in
     record {
       parallel = bit (settings .parallel);
       mux1 = sensor .mux .byte % 2;
@@ -37,11 +39,11 @@ heldOf r =
       enable = bit (settings .iel .enable);
       reduced = (r .edbs .0 + 63) % 64;
       bias = r .panel .bias;
-      relay = bit (supply .relay);
+      relay = bit (stop .relay);
       ground = r .panel .ground;
-      stopstepping = bit (supply .stepping);
-      stoplimit = supply .limit;
-      stoplevel = supply .level;
+      stopstepping = bit (stop .stepping);
+      stoplimit = stop .limit;
+      stoplevel = stop .level;
       flap1 = bit (r .panel .flap1);
       flap2 = bit (r .panel .flap2);
       flap3 = bit (r .panel .flap3);
@@ -51,6 +53,12 @@ heldOf r =
       mask = settings .mask;
       long = r .edbs .0;
       free = r .panel .free;
+      startstepping = bit (start .stepping);
+      startlimit = start .limit;
+      startlevel = start .level;
+      deflectionstepping = bit (deflection .stepping);
+      deflectionlimit = deflection .limit;
+      deflectionlevel = deflection .level;
     }
 
 -- the number that is latched as the next frame is built

@@ -31,41 +31,45 @@ fn reduced(edbs: Spins) -> u8
     ((edbs.0 % 64 + 63) % 64) as u8
 }
 
-// What the rig holds of each item of a frame. Of the windows and multiplexers that is the register, not what was ordered (02 (ii)).
+// What the rig holds of each item of a frame. Of the windows and multiplexers that is the register, not what was ordered (02 (ii)); the relay, which the
+// three supplies have in common, is told from stop's record.
 fn held_of(rig: Rig) -> Held
     ensures { λ r. ⌜ r ≡ heldOf rig ⌝ }
 {
-    let supply = rig.core.stop;
-    let settings = rig.core.settings;
-    let sensor = rig.register;
     Held {
-        parallel: bit_of(settings.parallel),
-        mux1: sensor.mux.byte % 2,
-        mux2: sensor.mux.byte / 0x08 % 2,
-        mux3: sensor.mux.byte / 0x40 % 2,
+        parallel: bit_of(rig.core.settings.parallel),
+        mux1: rig.register.mux.byte % 2,
+        mux2: rig.register.mux.byte / 0x08 % 2,
+        mux3: rig.register.mux.byte / 0x40 % 2,
         error: rig.faults.error,
-        dstop: sensor.direction.stop,
-        dstart: sensor.direction.start,
-        estop: sensor.energy.stop,
-        estart: sensor.energy.start,
+        dstop: rig.register.direction.stop,
+        dstart: rig.register.direction.start,
+        estop: rig.register.energy.stop,
+        estart: rig.register.energy.start,
         last: rig.faults.last,
-        enable: bit_of(settings.iel.enable),
+        enable: bit_of(rig.core.settings.iel.enable),
         reduced: reduced(rig.edbs),
         bias: rig.panel.bias,
-        relay: bit_of(supply.relay),
+        relay: bit_of(rig.core.stop.relay),
         ground: rig.panel.ground,
-        stopstepping: bit_of(supply.stepping),
-        stoplimit: supply.limit,
-        stoplevel: supply.level,
+        stopstepping: bit_of(rig.core.stop.stepping),
+        stoplimit: rig.core.stop.limit,
+        stoplevel: rig.core.stop.level,
         flap1: bit_of(rig.panel.flap1),
         flap2: bit_of(rig.panel.flap2),
         flap3: bit_of(rig.panel.flap3),
-        clock: bit_of(settings.iel.clock),
+        clock: bit_of(rig.core.settings.iel.clock),
         check: rig.check,
         count: rig.faults.count,
-        mask: settings.mask,
+        mask: rig.core.settings.mask,
         long: rig.edbs.0,
         free: rig.panel.free,
+        startstepping: bit_of(rig.core.start.stepping),
+        startlimit: rig.core.start.limit,
+        startlevel: rig.core.start.level,
+        deflectionstepping: bit_of(rig.core.deflection.stepping),
+        deflectionlimit: rig.core.deflection.limit,
+        deflectionlevel: rig.core.deflection.level,
     }
 }
 

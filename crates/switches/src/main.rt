@@ -1,5 +1,6 @@
 // Each switch and each small setting by itself on a fresh rig: after 35 whole slots its own items have moved, and no other; held to the file `stdout`.
-// Keeps 01 "Command words" and "Spins and power": what each moves; "The 40-byte frame": each item has bits of its own. A block has its spin, 02 (ii).
+// Keeps 01 "Command words" and "Spins and power": what each moves; "The 40-byte frame": each item has bits of its own. A block has its spin, 02 (ii);
+// each supply has commands of its own, and the relay is common, 02 (iv).
 use bench::Bench;
 use desk::Desk;
 use power::PanelSetting;
@@ -40,8 +41,12 @@ fn set(name: &[u8], setting: PanelSetting) {
 fn singles() {
     single(b"relay on", 0x0802);
     single(b"parallel", 0x2B01);
-    single(b"stepping", 0x2D01);
-    single(b"limit 10", 0x290A);
+    single(b"stop stepping", 0x2D01);
+    single(b"stop limit 10", 0x290A);
+    single(b"start stepping", 0x2C01);
+    single(b"start limit 9", 0x2109);
+    single(b"deflection stepping", 0x2201);
+    single(b"deflection limit 11", 0x240B);
     single(b"IEL clock", 0x0C01);
     single(b"IEL enable", 0x0C02);
     single(b"head mask 5", 0x2605);
@@ -59,6 +64,40 @@ fn blocks() {
     say_moved(b"energy window 5 to 9 with no spin", early);
 }
 
+// The words that bring a supply up, and five spins; then the relay off, which brings level and target to 0.
+fn up(name: &[u8], words: &[u16]) {
+    let aimed = steps::send_all(bench::fresh(), words);
+    let risen = steps::spins(aimed, 5);
+    say_moved(name, risen);
+    say_moved(b"and then relay off", steps::send(risen, 0x0820));
+}
+
+const STOP: [u16; 4] = [0x0802, 0x2D01, 0x290A, 0x2803];
+
+const START: [u16; 4] = [0x0802, 0x2C01, 0x2109, 0x2004];
+
+const DEFLECTION: [u16; 4] = [0x0802, 0x2201, 0x240B, 0x2305];
+
+const ALL: [u16; 10] = [
+    0x0802,
+    0x2D01,
+    0x2C01,
+    0x2201,
+    0x290A,
+    0x2109,
+    0x240B,
+    0x2803,
+    0x2004,
+    0x2305,
+];
+
+fn supplies() {
+    up(b"stop at 3", &STOP);
+    up(b"start at 4", &START);
+    up(b"deflection at 5", &DEFLECTION);
+    up(b"all three", &ALL);
+}
+
 fn settings() {
     set(b"flap 1", PanelSetting::Flap1(true));
     set(b"flap 2", PanelSetting::Flap2(true));
@@ -73,6 +112,7 @@ fn main() {
     let fresh = heard(bench::fresh());
     showing::all(fresh);
     singles();
+    supplies();
     blocks();
     settings();
     say_moved(b"three spins", steps::spins(bench::fresh(), 3));

@@ -1,10 +1,11 @@
 // Words read back: one single, or one block of right length and check, to its command and settings.
-// Keeps 02 (i): 38 for words that are not one command of 01; bits that 01 does not name are not looked at.
+// Keeps 02 (i), and (iv), the commands of each supply: 38 for words that are not one command of 01; bits that 01 does not name are not looked at.
 ghost use mathlib.Core.Path.{_≡_};
 ghost use mathlib.Core.Bool.{_&&_};
 ghost use Prim.Native.Nat.{_/_, _%_};
 ghost use lib.Dec.{eqb};
 ghost use Rattle.wording.specs.Meaning.{singleMeant, blockMeant, isBlock, fourMeant, readOf};
+use judge::Which;
 use wording::Command;
 use wording::Meant;
 use wording::Refusal;
@@ -17,11 +18,17 @@ fn single_meant(code: u8, low: u8) -> Meant
         0x08 => Meant::Is(Command::Relay(low / 0x02 % 2, low / 0x20 % 2)),
         // Bit 0 clock, bit 1 enable.
         0x0C => Meant::Is(Command::Iel(low % 2, low / 0x02 % 2)),
+        0x20 => Meant::Is(Command::Target(Which::Start, low % 16)),
+        0x21 => Meant::Is(Command::Limit(Which::Start, low % 16)),
+        0x22 => Meant::Is(Command::Stepping(Which::Deflection, low)),
+        0x23 => Meant::Is(Command::Target(Which::Deflection, low % 16)),
+        0x24 => Meant::Is(Command::Limit(Which::Deflection, low % 16)),
         0x26 => Meant::Is(Command::HeadMask(low % 8)),
-        0x28 => Meant::Is(Command::Target(low % 16)),
-        0x29 => Meant::Is(Command::Limit(low % 16)),
+        0x28 => Meant::Is(Command::Target(Which::Stop, low % 16)),
+        0x29 => Meant::Is(Command::Limit(Which::Stop, low % 16)),
         0x2B => Meant::Is(Command::Mode(low)),
-        0x2D => Meant::Is(Command::Stepping(low)),
+        0x2C => Meant::Is(Command::Stepping(Which::Start, low)),
+        0x2D => Meant::Is(Command::Stepping(Which::Stop, low)),
         _ => Meant::Refused(Refusal::NotOne),
     }
 }

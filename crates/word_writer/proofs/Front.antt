@@ -7,12 +7,15 @@ use Prim.Native.Nat.{ℕ, _≤_, _<_}
 use native.Mathlib.Omega.{arith}
 use borrow.Author.Tests.{le-leb}
 use lib.ListN.{length, set}
+use Rattle.judge.specs.declared.Which.{Which}
+use Rattle.judge.specs.declared.Which.the-variants.{Stop, Start, Deflection}
+use Rattle.judge.specs.Table.{targetCode, limitCode, steppingCode}
 use Rattle.wording.specs.declared.Command.{Command}
 use Rattle.wording.specs.declared.Command.the-variants.{Relay, Iel, HeadMask, Target, Limit, Mode, Stepping, Multiplexers, DirectionWindow, EnergyWindow}
 use Rattle.wording.specs.Written.{fits, wordsOf, putAnswer, putInto, wroteOf, writtenOf}
 use Rattle.word_writer.specs.declared.Form.{Form}
 use Rattle.word_writer.specs.declared.Form.the-variants.{Single, Block}
-use Rattle.word_writer.specs.Forms.{formOf, laid}
+use Rattle.word_writer.specs.Forms.{ofSupply, formOf, laid}
 
 pub set-one : (out : List ℕ) (a : ℕ) → 1 ≤ length out → set out 0 a ≡ putInto (a ∷ []) out
 set-one [] a h = absurd (omega arith)
@@ -25,15 +28,21 @@ set-four (p ∷ q ∷ []) a b c d h = absurd (omega arith)
 set-four (p ∷ q ∷ r ∷ []) a b c d h = absurd (omega arith)
 set-four (p ∷ q ∷ r ∷ s ∷ out) a b c d h = rw (le-leb 4 (length (p ∷ q ∷ r ∷ s ∷ out)) h)
 
+-- the codes of a supply are those of the table
+pub codes : (x : Which) → (ofSupply x 0x28 0x20 0x23 ≡ targetCode x) × (ofSupply x 0x29 0x21 0x24 ≡ limitCode x) × (ofSupply x 0x2D 0x2C 0x22 ≡ steppingCode x)
+codes Stop = (refl, refl, refl)
+codes Start = (refl, refl, refl)
+codes Deflection = (refl, refl, refl)
+
 -- the words of a form are those of its command
 pub laid-form : (c : Command) → laid (formOf c) ≡ wordsOf c
 laid-form (Relay on off) = refl
 laid-form (Iel clock enable) = refl
 laid-form (HeadMask mask) = refl
-laid-form (Target target) = refl
-laid-form (Limit limit) = refl
+laid-form (Target x target) = refl
+laid-form (Limit x limit) = refl
 laid-form (Mode low) = refl
-laid-form (Stepping low) = refl
+laid-form (Stepping x low) = refl
 laid-form (Multiplexers byte bit) = refl
 laid-form (DirectionWindow start stop) = refl
 laid-form (EnergyWindow start stop) = refl
@@ -47,10 +56,10 @@ below : (c : Command) → Below (formOf c)
 below (Relay on off) = tt
 below (Iel clock enable) = tt
 below (HeadMask mask) = tt
-below (Target target) = tt
-below (Limit limit) = tt
+below (Target x target) = tt
+below (Limit x limit) = tt
 below (Mode low) = tt
-below (Stepping low) = tt
+below (Stepping x low) = tt
 below (Multiplexers byte bit) = omega arith
 below (DirectionWindow start stop) = omega arith
 below (EnergyWindow start stop) = omega arith

@@ -1,5 +1,6 @@
 // A command's words written into a buffer that the caller lends: the single word, or the whole block with its check.
 // Keeps 02 (i): 25 a setting too wide, then 26 too few words of room; both leave the buffer untouched, and words behind those written stay.
+// Keeps of (iv) the commands of each supply.
 ghost use mathlib.Core.Path.{_≡_};
 ghost use mathlib.Core.Bool.{true, _&&_};
 ghost use mathlib.Core.List.{[], _∷_};
@@ -7,7 +8,8 @@ ghost use lib.Dec.{ltb};
 ghost use Prim.Native.Nat.{_<_};
 ghost use lib.ListN.{length};
 ghost use Rattle.wording.specs.Written.{fits, block, putAnswer, putInto, wroteOf, writtenOf};
-ghost use Rattle.word_writer.specs.Forms.{formOf};
+ghost use Rattle.word_writer.specs.Forms.{ofSupply, formOf};
+use judge::Which;
 use wording::Command;
 use wording::Refusal;
 use wording::Wrote;
@@ -36,13 +38,24 @@ fn fit(c: Command) -> bool
         Command::Relay(on, off) => within(on, 2, off, 2),
         Command::Iel(clock, enable) => within(clock, 2, enable, 2),
         Command::HeadMask(mask) => within(mask, 8, 0, 1),
-        Command::Target(target) => within(target, 16, 0, 1),
-        Command::Limit(limit) => within(limit, 16, 0, 1),
+        Command::Target(_, target) => within(target, 16, 0, 1),
+        Command::Limit(_, limit) => within(limit, 16, 0, 1),
         Command::Mode(low) => within(low, 256, 0, 1),
-        Command::Stepping(low) => within(low, 256, 0, 1),
+        Command::Stepping(_, low) => within(low, 256, 0, 1),
         Command::Multiplexers(byte, bit) => within(byte, 256, bit, 2),
         Command::DirectionWindow(start, stop) => within(start, 32, stop, 32),
         Command::EnergyWindow(start, stop) => within(start, 32, stop, 32),
+    }
+}
+
+// Of three numbers, that of a supply.
+fn of_supply(which: Which, stop: u8, start: u8, deflection: u8) -> u8
+    ensures { λ r. ⌜ r ≡ ofSupply which stop start deflection ⌝ }
+{
+    match which {
+        Which::Stop => stop,
+        Which::Start => start,
+        Which::Deflection => deflection,
     }
 }
 
@@ -56,10 +69,10 @@ fn form_of(c: Command) -> Form
         // Bit 0 clock, bit 1 enable.
         Command::Iel(clock, enable) => Form::Single(0x0C, clock * 0x01 + enable * 0x02),
         Command::HeadMask(mask) => Form::Single(0x26, mask),
-        Command::Target(target) => Form::Single(0x28, target),
-        Command::Limit(limit) => Form::Single(0x29, limit),
+        Command::Target(x, target) => Form::Single(of_supply(x, 0x28, 0x20, 0x23), target),
+        Command::Limit(x, limit) => Form::Single(of_supply(x, 0x29, 0x21, 0x24), limit),
         Command::Mode(low) => Form::Single(0x2B, low),
-        Command::Stepping(low) => Form::Single(0x2D, low),
+        Command::Stepping(x, low) => Form::Single(of_supply(x, 0x2D, 0x2C, 0x22), low),
         Command::Multiplexers(byte, bit) => Form::Block(0x20, byte, bit),
         Command::DirectionWindow(start, stop) => Form::Block(0x23, start, stop),
         Command::EnergyWindow(start, stop) => Form::Block(0x24, start, stop),

@@ -14,7 +14,9 @@ use Rattle.base.specs.Pick.{pick}
 use Rattle.base.proofs.Cases.{split}
 use Rattle.base.proofs.Table.{allBelow, below}
 use Rattle.crc.specs.Crc.{crcOf}
-use Rattle.judge.specs.Table.{singles, blocks, namedBits, namedBits2}
+use Rattle.judge.specs.declared.Which.{Which}
+use Rattle.judge.specs.declared.Which.the-variants.{Stop, Start, Deflection}
+use Rattle.judge.specs.Table.{targetCode, limitCode, steppingCode, singles, blocks, namedBits, namedBits2}
 use Rattle.wording.specs.declared.Command.{Command}
 use Rattle.wording.specs.declared.Command.the-variants.{Relay, Iel, HeadMask, Target, Limit, Mode, Stepping, Multiplexers, DirectionWindow, EnergyWindow}
 use Rattle.wording.specs.declared.Refusal.{Refusal}
@@ -50,15 +52,29 @@ module _ (code a b : ℕ) (code64 : code < 64) (la : a < 256) (lb : b < 256) whe
       let eb : dataWord code b % 256 ≡ b = omega arith in
       rw is-block (rw (c, ea, eb))
 
+-- a supply's singles, by their low byte
+meant : (x : Which) (low : ℕ) → (singleMeant (targetCode x) low ≡ Is (Target x (low % 16)))
+    × (singleMeant (limitCode x) low ≡ Is (Limit x (low % 16))) × (singleMeant (steppingCode x) low ≡ Is (Stepping x low))
+unfolding singleMeant
+meant Stop low = (refl, refl, refl)
+meant Start low = (refl, refl, refl)
+meant Deflection low = (refl, refl, refl)
+
 back : (c : Command) → fits c ≡ true → readOf (wordsOf c) ≡ Is c
 unfolding singleMeant blockMeant
 back (Relay on off) f = let h = fits-two on 2 off 2 f in two-bits (λ x y. readOf (wordsOf (Relay x y)) ≡ Is (Relay x y)) refl refl refl refl on off (h .0) (h .1)
 back (Iel clock enable) f = let h = fits-two clock 2 enable 2 f in two-bits (λ x y. readOf (wordsOf (Iel x y)) ≡ Is (Iel x y)) refl refl refl refl clock enable (h .0) (h .1)
 back (HeadMask mask) f = let h = fits-one mask 8 f in let e : mask % 8 ≡ mask = omega arith in read-single 0x26 mask (omega arith) ∙ rw e
-back (Target target) f = let h = fits-one target 16 f in let e : target % 16 ≡ target = omega arith in read-single 0x28 target (omega arith) ∙ rw e
-back (Limit limit) f = let h = fits-one limit 16 f in let e : limit % 16 ≡ limit = omega arith in read-single 0x29 limit (omega arith) ∙ rw e
+back (Target x target) f =
+    let h = fits-one target 16 f in
+    let e : target % 16 ≡ target = omega arith in
+    read-single (targetCode x) target (omega arith) ∙ meant x target .0 ∙ ap (λ (t : ℕ). Is (Target x t)) e
+back (Limit x limit) f =
+    let h = fits-one limit 16 f in
+    let e : limit % 16 ≡ limit = omega arith in
+    read-single (limitCode x) limit (omega arith) ∙ meant x limit .1 ∙ ap (λ (t : ℕ). Is (Limit x t)) e
 back (Mode low) f = read-single 0x2B low (fits-one low 256 f)
-back (Stepping low) f = read-single 0x2D low (fits-one low 256 f)
+back (Stepping x low) f = read-single (steppingCode x) low (fits-one low 256 f) ∙ meant x low .2
 back (Multiplexers byte bit) f =
     let h = fits-two byte 256 bit 2 f in
     let e : bit % 2 ≡ bit = omega arith in
@@ -115,17 +131,29 @@ read-one w =
     (good-single w 0x08 (Relay (low / 0x02 % 2) (low / 0x20 % 2)) (λ x. x / 0x02 % 2 * 0x02 + x / 0x20 % 2 * 0x20) (inl refl) refl tt (fit-two (low / 0x02 % 2) 2 (low / 0x20 % 2) 2 (omega arith) (omega arith)))
     (λ _. by-pick P (eqb (w / 256) 0x0C)
     (good-single w 0x0C (Iel (low % 2) (low / 0x02 % 2)) (λ x. x % 2 * 0x01 + x / 0x02 % 2 * 0x02) (inr (inl refl)) refl tt (fit-two (low % 2) 2 (low / 0x02 % 2) 2 (omega arith) (omega arith)))
+    (λ _. by-pick P (eqb (w / 256) 0x20)
+    (good-single w 0x20 (Target Start (low % 16)) (λ x. x % 16) (inr (inr (inl refl))) refl tt (fit-one (low % 16) 16 (omega arith)))
+    (λ _. by-pick P (eqb (w / 256) 0x21)
+    (good-single w 0x21 (Limit Start (low % 16)) (λ x. x % 16) (inr (inr (inr (inl refl)))) refl tt (fit-one (low % 16) 16 (omega arith)))
+    (λ _. by-pick P (eqb (w / 256) 0x22)
+    (good-single w 0x22 (Stepping Deflection low) (λ x. x) (inr (inr (inr (inr (inl refl))))) refl tt (fit-one low 256 (omega arith)))
+    (λ _. by-pick P (eqb (w / 256) 0x23)
+    (good-single w 0x23 (Target Deflection (low % 16)) (λ x. x % 16) (inr (inr (inr (inr (inr (inl refl)))))) refl tt (fit-one (low % 16) 16 (omega arith)))
+    (λ _. by-pick P (eqb (w / 256) 0x24)
+    (good-single w 0x24 (Limit Deflection (low % 16)) (λ x. x % 16) (inr (inr (inr (inr (inr (inr (inl refl))))))) refl tt (fit-one (low % 16) 16 (omega arith)))
     (λ _. by-pick P (eqb (w / 256) 0x26)
-    (good-single w 0x26 (HeadMask (low % 8)) (λ x. x % 8) (inr (inr (inl refl))) refl tt (fit-one (low % 8) 8 (omega arith)))
+    (good-single w 0x26 (HeadMask (low % 8)) (λ x. x % 8) (inr (inr (inr (inr (inr (inr (inr (inl refl)))))))) refl tt (fit-one (low % 8) 8 (omega arith)))
     (λ _. by-pick P (eqb (w / 256) 0x28)
-    (good-single w 0x28 (Target (low % 16)) (λ x. x % 16) (inr (inr (inr (inl refl)))) refl tt (fit-one (low % 16) 16 (omega arith)))
+    (good-single w 0x28 (Target Stop (low % 16)) (λ x. x % 16) (inr (inr (inr (inr (inr (inr (inr (inr (inl refl))))))))) refl tt (fit-one (low % 16) 16 (omega arith)))
     (λ _. by-pick P (eqb (w / 256) 0x29)
-    (good-single w 0x29 (Limit (low % 16)) (λ x. x % 16) (inr (inr (inr (inr (inl refl))))) refl tt (fit-one (low % 16) 16 (omega arith)))
+    (good-single w 0x29 (Limit Stop (low % 16)) (λ x. x % 16) (inr (inr (inr (inr (inr (inr (inr (inr (inr (inl refl)))))))))) refl tt (fit-one (low % 16) 16 (omega arith)))
     (λ _. by-pick P (eqb (w / 256) 0x2B)
-    (good-single w 0x2B (Mode low) (λ x. x) (inr (inr (inr (inr (inr (inl refl)))))) refl tt (fit-one low 256 (omega arith)))
+    (good-single w 0x2B (Mode low) (λ x. x) (inr (inr (inr (inr (inr (inr (inr (inr (inr (inr (inl refl))))))))))) refl tt (fit-one low 256 (omega arith)))
+    (λ _. by-pick P (eqb (w / 256) 0x2C)
+    (good-single w 0x2C (Stepping Start low) (λ x. x) (inr (inr (inr (inr (inr (inr (inr (inr (inr (inr (inr (inl refl)))))))))))) refl tt (fit-one low 256 (omega arith)))
     (λ _. by-pick P (eqb (w / 256) 0x2D)
-    (good-single w 0x2D (Stepping low) (λ x. x) (inr (inr (inr (inr (inr (inr (inl refl))))))) refl tt (fit-one low 256 (omega arith)))
-    (λ _. refl)))))))
+    (good-single w 0x2D (Stepping Stop low) (λ x. x) (inr (inr (inr (inr (inr (inr (inr (inr (inr (inr (inr (inr (inl refl))))))))))))) refl tt (fit-one low 256 (omega arith)))
+    (λ _. refl)))))))))))))
 
 -- four tests that all pass
 four : (p q s t : Bool) → (p && q && s && t) ≡ true → (p ≡ true) × (q ≡ true) × (s ≡ true) × (t ≡ true)
@@ -233,7 +261,13 @@ single-code code low (inr (inr (inr (inl e)))) = rw e tt
 single-code code low (inr (inr (inr (inr (inl e))))) = rw e tt
 single-code code low (inr (inr (inr (inr (inr (inl e)))))) = rw e tt
 single-code code low (inr (inr (inr (inr (inr (inr (inl e))))))) = rw e tt
-single-code code low (inr (inr (inr (inr (inr (inr (inr e))))))) = absurd e
+single-code code low (inr (inr (inr (inr (inr (inr (inr (inl e)))))))) = rw e tt
+single-code code low (inr (inr (inr (inr (inr (inr (inr (inr (inl e))))))))) = rw e tt
+single-code code low (inr (inr (inr (inr (inr (inr (inr (inr (inr (inl e)))))))))) = rw e tt
+single-code code low (inr (inr (inr (inr (inr (inr (inr (inr (inr (inr (inl e))))))))))) = rw e tt
+single-code code low (inr (inr (inr (inr (inr (inr (inr (inr (inr (inr (inr (inl e)))))))))))) = rw e tt
+single-code code low (inr (inr (inr (inr (inr (inr (inr (inr (inr (inr (inr (inr (inl e))))))))))))) = rw e tt
+single-code code low (inr (inr (inr (inr (inr (inr (inr (inr (inr (inr (inr (inr (inr (e)))))))))))))) = absurd e
 
 block-code : (code a b : ℕ) → OneOf blocks code → (code < 64) × Read (blockMeant code a b)
 unfolding blockMeant

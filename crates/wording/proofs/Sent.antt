@@ -13,9 +13,13 @@ use Rattle.crc.specs.Judged.{judgeOf}
 use Rattle.crc.proofs.Laws.{laws as crc-laws}
 use Rattle.supply.specs.Rules.{relayOf, targeted, limited, switched}
 use Rattle.supply.specs.declared.Change.{Change}
+use Rattle.judge.specs.declared.Which.{Which}
+use Rattle.judge.specs.declared.Which.the-variants.{Stop, Start, Deflection}
 use Rattle.judge.specs.declared.Core.{Core}
 use Rattle.judge.specs.declared.Verdict.{Verdict}
 use Rattle.judge.specs.Commands.{carried, modeCmd, singleOf, countedOf, blockOf}
+use Rattle.judge.specs.Table.{targetCode, limitCode, steppingCode}
+use Rattle.judge.proofs.Table.{laws as table}
 use Rattle.rig.specs.declared.Rig.{Rig}
 use Rattle.rig.specs.declared.Kind.{Kind}
 use Rattle.rig.specs.declared.Kind.the-variants.{Single, Head, Data, End}
@@ -134,10 +138,16 @@ module _ (r : Rig) (idle : r .pending .waiting ≡ false) (code : ℕ) (code64 :
   end-sent a b k h e =
       rw (end-high code k code64 h, end-low code k code64 h, end-kind code code64, same-code (0xC0 + code) (end-code code code64), eq-eqb k (crcOf (a ∷ b ∷ [])) e, head-code code code64)
 
--- what the supply answers under a test is the verdict under that test
-carried-pick : (c : Core) (b : Bool) (x y : Change) → carried c (pick b x y) ≡ pick b (carried c x) (carried c y)
-carried-pick c true x y = refl
-carried-pick c false x y = refl
+-- what the supply x answers under a test is the verdict under that test
+carried-pick : (c : Core) (x : Which) (b : Bool) (y z : Change) → carried c x (pick b y z) ≡ pick b (carried c x y) (carried c x z)
+carried-pick c x true y z = refl
+carried-pick c x false y z = refl
+
+-- a supply's codes are of six bits
+pub codes : (x : Which) → (targetCode x < 64) × (limitCode x < 64) × (steppingCode x < 64)
+codes Stop = (omega arith, omega arith, omega arith)
+codes Start = (omega arith, omega arith, omega arith)
+codes Deflection = (omega arith, omega arith, omega arith)
 
 -- two settings of one bit each
 pub two-bits : (P : ℕ → ℕ → Type 0) → P 0 0 → P 0 1 → P 1 0 → P 1 1 → (a b : ℕ) → a < 2 → b < 2 → P a b
@@ -163,21 +173,21 @@ module _ (c : Core) where
   unfolding singleOf
   mask-judged mask h = let e : mask % 8 ≡ mask = omega arith in rw e
 
-  target-judged : (target : ℕ) → target < 16 → singleOf c 0x28 target ≡ judgedOf c (Target target)
-  unfolding singleOf targeted carried
-  target-judged target h = let e : target % 16 ≡ target = omega arith in rw e (simp (carried-pick c))
+  target-judged : (x : Which) (target : ℕ) → target < 16 → singleOf c (targetCode x) target ≡ judgedOf c (Target x target)
+  unfolding targeted carried
+  target-judged x target h = let e : target % 16 ≡ target = omega arith in table .target x c target ∙ rw e (simp (carried-pick c x))
 
-  limit-judged : (limit : ℕ) → limit < 16 → singleOf c 0x29 limit ≡ judgedOf c (Limit limit)
-  unfolding singleOf limited carried
-  limit-judged limit h = let e : limit % 16 ≡ limit = omega arith in rw e (simp (carried-pick c))
+  limit-judged : (x : Which) (limit : ℕ) → limit < 16 → singleOf c (limitCode x) limit ≡ judgedOf c (Limit x limit)
+  unfolding limited carried
+  limit-judged x limit h = let e : limit % 16 ≡ limit = omega arith in table .limit x c limit ∙ rw e (simp (carried-pick c x))
 
   mode-judged : (low : ℕ) → singleOf c 0x2B low ≡ judgedOf c (Mode low)
   unfolding singleOf modeCmd
   mode-judged low = refl
 
-  stepping-judged : (low : ℕ) → singleOf c 0x2D low ≡ judgedOf c (Stepping low)
-  unfolding singleOf switched carried
-  stepping-judged low = simp (carried-pick c)
+  stepping-judged : (x : Which) (low : ℕ) → singleOf c (steppingCode x) low ≡ judgedOf c (Stepping x low)
+  unfolding switched carried
+  stepping-judged x low = table .stepping x c low ∙ simp (carried-pick c x)
 
   mux-judged : (byte bit : ℕ) → bit < 2 → blockOf c 0x20 2 byte bit ≡ judgedOf c (Multiplexers byte bit)
   unfolding blockOf countedOf
@@ -248,16 +258,16 @@ sends r (Iel clock enable) i f =
 sends r (HeadMask mask) i f =
     let h = fits-one mask 8 f in
     sent-single r 0x26 mask (judgedOf (r .core) (HeadMask mask)) i (omega arith) (omega arith) (mask-judged (r .core) mask h)
-sends r (Target target) i f =
+sends r (Target x target) i f =
     let h = fits-one target 16 f in
-    sent-single r 0x28 target (judgedOf (r .core) (Target target)) i (omega arith) (omega arith) (target-judged (r .core) target h)
-sends r (Limit limit) i f =
+    sent-single r (targetCode x) target (judgedOf (r .core) (Target x target)) i (codes x .0) (omega arith) (target-judged (r .core) x target h)
+sends r (Limit x limit) i f =
     let h = fits-one limit 16 f in
-    sent-single r 0x29 limit (judgedOf (r .core) (Limit limit)) i (omega arith) (omega arith) (limit-judged (r .core) limit h)
+    sent-single r (limitCode x) limit (judgedOf (r .core) (Limit x limit)) i (codes x .1) (omega arith) (limit-judged (r .core) x limit h)
 sends r (Mode low) i f =
     sent-single r 0x2B low (judgedOf (r .core) (Mode low)) i (omega arith) (fits-one low 256 f) (mode-judged (r .core) low)
-sends r (Stepping low) i f =
-    sent-single r 0x2D low (judgedOf (r .core) (Stepping low)) i (omega arith) (fits-one low 256 f) (stepping-judged (r .core) low)
+sends r (Stepping x low) i f =
+    sent-single r (steppingCode x) low (judgedOf (r .core) (Stepping x low)) i (codes x .2) (fits-one low 256 f) (stepping-judged (r .core) x low)
 sends r (Multiplexers byte bit) i f =
     let h = fits-two byte 256 bit 2 f in
     sent-block r 0x20 byte bit (judgedOf (r .core) (Multiplexers byte bit)) i (omega arith) (h .0) (omega arith) (mux-judged (r .core) byte bit (h .1))

@@ -7,7 +7,7 @@ use mathlib.Core.Logic.{_⊎_}
 use mathlib.Core.List.{List, [], _∷_, _++_}
 use lib.ListN.{length, drop, replicate}
 use Rattle.crc.specs.Crc.{crcOf}
-use Rattle.judge.specs.Table.{singles, blocks}
+use Rattle.judge.specs.Table.{singles, blocks, targetCode, limitCode, steppingCode}
 use Rattle.rig.specs.declared.Rig.{Rig}
 use Rattle.rig.specs.declared.Answer.the-variants.{Waiting}
 use Rattle.rig.specs.declared.Reply.{Reply}
@@ -42,10 +42,10 @@ abbrev pub judgedIn : Rig → Command → Rig
 judgedIn r (Relay on off) = r
 judgedIn r (Iel clock enable) = r
 judgedIn r (HeadMask mask) = r
-judgedIn r (Target target) = r
-judgedIn r (Limit limit) = r
+judgedIn r (Target x target) = r
+judgedIn r (Limit x limit) = r
 judgedIn r (Mode low) = r
-judgedIn r (Stepping low) = r
+judgedIn r (Stepping x low) = r
 judgedIn r (Multiplexers byte bit) = closedWith r byte bit
 judgedIn r (DirectionWindow start stop) = closedWith r start stop
 judgedIn r (EnergyWindow start stop) = closedWith r start stop
@@ -55,10 +55,10 @@ abbrev pub headByte : Command → ℕ
 headByte (Relay on off) = 0x08
 headByte (Iel clock enable) = 0x0C
 headByte (HeadMask mask) = 0x26
-headByte (Target target) = 0x28
-headByte (Limit limit) = 0x29
+headByte (Target x target) = targetCode x
+headByte (Limit x limit) = limitCode x
 headByte (Mode low) = 0x2B
-headByte (Stepping low) = 0x2D
+headByte (Stepping x low) = steppingCode x
 headByte (Multiplexers byte bit) = 0x60
 headByte (DirectionWindow start stop) = 0x63
 headByte (EnergyWindow start stop) = 0x64

@@ -7,6 +7,7 @@ use lib.Bits.{bitAnd}
 use lib.Dec.{eqb}
 use Rattle.base.specs.Pick.{pick}
 use Rattle.crc.specs.Crc.{crcOf}
+use Rattle.judge.specs.declared.Which.the-variants.{Stop, Start, Deflection}
 use Rattle.judge.specs.Table.{namedBits, namedBits2}
 use Rattle.wording.specs.declared.Command.the-variants.{Relay, Iel, HeadMask, Target, Limit, Mode, Stepping, Multiplexers, DirectionWindow, EnergyWindow}
 use Rattle.wording.specs.declared.Refusal.the-variants.{NotOne}
@@ -19,12 +20,18 @@ unfoldable pub singleMeant : ℕ → ℕ → Meant
 singleMeant code low =
     pick (eqb code 0x08) (Is (Relay (low / 0x02 % 2) (low / 0x20 % 2))) (
     pick (eqb code 0x0C) (Is (Iel (low % 2) (low / 0x02 % 2))) (
+    pick (eqb code 0x20) (Is (Target Start (low % 16))) (
+    pick (eqb code 0x21) (Is (Limit Start (low % 16))) (
+    pick (eqb code 0x22) (Is (Stepping Deflection low)) (
+    pick (eqb code 0x23) (Is (Target Deflection (low % 16))) (
+    pick (eqb code 0x24) (Is (Limit Deflection (low % 16))) (
     pick (eqb code 0x26) (Is (HeadMask (low % 8))) (
-    pick (eqb code 0x28) (Is (Target (low % 16))) (
-    pick (eqb code 0x29) (Is (Limit (low % 16))) (
+    pick (eqb code 0x28) (Is (Target Stop (low % 16))) (
+    pick (eqb code 0x29) (Is (Limit Stop (low % 16))) (
     pick (eqb code 0x2B) (Is (Mode low)) (
-    pick (eqb code 0x2D) (Is (Stepping low)) (
-    Refused NotOne)))))))
+    pick (eqb code 0x2C) (Is (Stepping Start low)) (
+    pick (eqb code 0x2D) (Is (Stepping Stop low)) (
+    Refused NotOne)))))))))))))
 
 -- The block of a code, by its two bytes.
 unfoldable pub blockMeant : ℕ → ℕ → ℕ → Meant

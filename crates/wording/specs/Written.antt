@@ -1,4 +1,5 @@
--- The words of a command (02 (i)): the single word, or the whole block with its check; and when a setting is too wide.
+-- The words of a command (02 (i)): the single word, or the whole block with its check; and when a setting is too wide. A supply's commands have the
+-- supply x, which tells the code (02 (iv)).
 -- Assumes nothing.
 use Prim.Native.Nat.{ℕ, _+_, _*_, _^_}
 use mathlib.Core.Bool.{Bool, true, _&&_}
@@ -7,6 +8,7 @@ use lib.Dec.{ltb, leb}
 use lib.ListN.{length, drop}
 use Rattle.base.specs.Pick.{pick}
 use Rattle.crc.specs.Crc.{crcOf}
+use Rattle.judge.specs.Table.{targetCode, limitCode, steppingCode}
 use Rattle.wording.specs.declared.Command.{Command}
 use Rattle.wording.specs.declared.Command.the-variants.{Relay, Iel, HeadMask, Target, Limit, Mode, Stepping, Multiplexers, DirectionWindow, EnergyWindow}
 use Rattle.wording.specs.declared.Refusal.the-variants.{TooWide, NoRoom}
@@ -18,10 +20,10 @@ abbrev pub settings : Command → List (ℕ × ℕ)
 settings (Relay on off) = (on, 1) ∷ (off, 1) ∷ []
 settings (Iel clock enable) = (clock, 1) ∷ (enable, 1) ∷ []
 settings (HeadMask mask) = (mask, 3) ∷ []
-settings (Target target) = (target, 4) ∷ []
-settings (Limit limit) = (limit, 4) ∷ []
+settings (Target x target) = (target, 4) ∷ []
+settings (Limit x limit) = (limit, 4) ∷ []
 settings (Mode low) = (low, 8) ∷ []
-settings (Stepping low) = (low, 8) ∷ []
+settings (Stepping x low) = (low, 8) ∷ []
 settings (Multiplexers byte bit) = (byte, 8) ∷ (bit, 1) ∷ []
 settings (DirectionWindow start stop) = (start, 5) ∷ (stop, 5) ∷ []
 settings (EnergyWindow start stop) = (start, 5) ∷ (stop, 5) ∷ []
@@ -60,10 +62,10 @@ abbrev pub wordsOf : Command → List ℕ
 wordsOf (Relay on off) = single 0x08 (on * 0x02 + off * 0x20)  -- bit 1 on, bit 5 off
 wordsOf (Iel clock enable) = single 0x0C (clock * 0x01 + enable * 0x02)  -- bit 0 clock, bit 1 enable
 wordsOf (HeadMask mask) = single 0x26 mask
-wordsOf (Target target) = single 0x28 target
-wordsOf (Limit limit) = single 0x29 limit
+wordsOf (Target x target) = single (targetCode x) target
+wordsOf (Limit x limit) = single (limitCode x) limit
 wordsOf (Mode low) = single 0x2B low
-wordsOf (Stepping low) = single 0x2D low
+wordsOf (Stepping x low) = single (steppingCode x) low
 wordsOf (Multiplexers byte bit) = block 0x20 byte bit
 wordsOf (DirectionWindow start stop) = block 0x23 start stop
 wordsOf (EnergyWindow start stop) = block 0x24 start stop

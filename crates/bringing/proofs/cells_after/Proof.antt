@@ -20,7 +20,13 @@ g s k = let a = s .args in cellAfter (toldBy (a .half) (now (a .frame)) (a .i) (
 returns : tie.Need-returns
 unfolding cellsAfter isPlain
 returns c =
-    let c26 = c .before in
+    let c32 = c .before in
+    let c31 = c32 .before in
+    let c30 = c31 .before in
+    let c29 = c30 .before in
+    let c28 = c29 .before in
+    let c27 = c28 .before in
+    let c26 = c27 .before in
     let c25 = c26 .before in
     let c24 = c25 .before in
     let c23 = c24 .before in
@@ -73,7 +79,13 @@ returns c =
     (row (g s) 23 (c24 .plain-cell24 .ensures)
     (row (g s) 24 (c25 .plain-cell25 .ensures)
     (row (g s) 25 (c26 .spread-cell .ensures)
-    (row (g s) 26 (c .spread-cell2 .ensures) refl)))))))))))))))))))))))))))
+    (row (g s) 26 (c27 .spread-cell2 .ensures)
+    (row (g s) 27 (c28 .plain-cell26 .ensures)
+    (row (g s) 28 (c29 .plain-cell27 .ensures)
+    (row (g s) 29 (c30 .plain-cell28 .ensures)
+    (row (g s) 30 (c31 .plain-cell29 .ensures)
+    (row (g s) 31 (c32 .plain-cell30 .ensures)
+    (row (g s) 32 (c .plain-cell31 .ensures) refl)))))))))))))))))))))))))))))))))
 
 pub cells-after-spec : {M : Type 1} → statement M
 cells-after-spec =
@@ -82,4 +94,5 @@ cells-after-spec =
     (λ c κs. search needs) (λ c κs. search needs) (λ c κs. search needs) (λ c κs. search needs) (λ c κs. search needs) (λ c κs. search needs) (λ c κs. search needs) (λ c κs. search needs) (λ c κs. search needs)
     (λ c κs. search needs) (λ c κs. search needs) (λ c κs. search needs) (λ c κs. search needs) (λ c κs. search needs) (λ c κs. search needs) (λ c κs. search needs) (λ c κs. search needs) (λ c κs. search needs)
     (λ c κs. search needs) (λ c κs. search needs) (λ c κs. search needs) (λ c κs. search needs) (λ c κs. search needs) (λ c κs. search needs) (λ c κs. search needs) (λ c κs. search needs) (λ c κs. search needs)
+    (λ c κs. search needs) (λ c κs. search needs) (λ c κs. search needs) (λ c κs. search needs) (λ c κs. search needs) (λ c κs. search needs)
     returns)

