@@ -1,5 +1,5 @@
 -- Runs of a rig from the start: any words, spins, settings, power cuts and frames, in any order and number; and what every run keeps.
--- Keeps 01 "Command words" (the counts and codes), "Spins and power", and the widths of "The 40-byte frame"; 02 (ii), the register; 02 (iv), three supplies. Assumes nothing.
+-- Keeps 01 "Command words" (counts and codes), "Spins and power", the widths of "The 40-byte frame"; 02 (ii), the register; 02 (iv). Assumes nothing.
 use mathlib.Core.Path.{_≡_}
 use mathlib.Core.Bool.{Bool, true, false, _&&_, _||_}
 use mathlib.Core.List.{List, [], _∷_, _++_}

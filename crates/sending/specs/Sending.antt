@@ -1,4 +1,4 @@
--- What the rig shows in a frame, and what building one does to it (01, "The 40-byte frame"; 02 (ii), the register; 02 (iv), three supplies). Rig and frame meet here alone.
+-- What the rig shows in a frame, and what building one does to it (01, "The 40-byte frame"; 02 (ii) and (iv)). Rig and frame meet here alone.
 -- Assumes nothing.
 use Prim.Native.Nat.{ℕ, _+_, _/_, _%_}
 use mathlib.Core.Bool.{Bool}
