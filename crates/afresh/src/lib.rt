@@ -1,5 +1,7 @@
 // A word with no block pending, and the bookkeeping of every refusal.
 // Keeps 01 "Command words": which word is stray, which head is too long, and what a refusal leaves behind.
+#![tactic(auto)]
+
 ghost use Rattle.std.specs.Prelude.{◌≡◌};
 ghost use Rattle.rig.specs.Words.{refused_of, settled_of, head_of, fresh_of};
 

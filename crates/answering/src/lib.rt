@@ -1,5 +1,7 @@
 // The answer to a typed line, as text in a page that the caller lends: a command's words in hex, one a line; what words mean, in plain words; a refusal's number.
 // Keeps 02 (i): what the class gets for what it types.
+#![tactic(auto)]
+
 ghost use Rattle.std.specs.Prelude.{◌++◌, ◌+◌, ◌*◌, ◌≤◌, length};
 ghost use Rattle.base.specs.Ascii.{ascii};
 ghost use Rattle.text.specs.Page.{Puts, fitting};

@@ -1,5 +1,7 @@
 // What arrived in a slot: a whole frame with its index, fill, or bytes that are refused.
 // Keeps 01 "The 40-byte frame": which bytes are fill; a frame not of 40 bytes is 17.
+#![tactic(auto)]
+
 ghost use Rattle.std.specs.Prelude.{◌≡◌};
 ghost use Rattle.frame.specs.Read.{all_are, arrived_of};
 

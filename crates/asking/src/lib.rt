@@ -1,5 +1,7 @@
 // What a typed line asks for: a command by its name and its settings, or what words in hex mean.
 // Keeps 02 (i): the class picks from a menu; a reader takes words back. A setting that no byte holds is too wide; a line that is neither is not read.
+#![tactic(auto)]
+
 ghost use Rattle.std.specs.Prelude.{◌≡◌, [], ◌-◌, length, get_or, drop};
 ghost use Rattle.splitting.specs.Words.{words_of};
 ghost use Rattle.numerals.specs.declared.Word.TheVariants.{Value};
@@ -11,7 +13,7 @@ use numerals::{Number, Word};
 use wording::{Command, Meant, Refusal};
 
 // What a line asks for. TooWide: a setting that no byte holds.
-#[derive(Drop)]
+#[derive(Clone, Copy)]
 pub enum Asked {
     Order(Command),
     TooWide,
@@ -20,7 +22,7 @@ pub enum Asked {
 }
 
 // A setting as it was typed.
-#[derive(Drop)]
+#[derive(Clone, Copy)]
 pub enum Setting {
     Byte(u8),
     Wide,

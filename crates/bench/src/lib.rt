@@ -1,5 +1,7 @@
 // The bench: one rig and one desk, and a function for each thing that happens to the rig alone. Crates `slots` and `passing` have those that reach the desk.
 // Keeps 01 whole: the demands are said of these functions' definitions. Rig and desk go in by value and come back.
+#![tactic(auto)]
+
 ghost use Rattle.std.specs.Prelude.{◌≡◌};
 ghost use Rattle.bench.specs.Bench.{fresh_bench, worded_of, spun_bench, set_bench, cut_bench};
 
@@ -7,14 +9,14 @@ use desk::Desk;
 use power::PanelSetting;
 use rig::{Reply, Rig};
 
-#[derive(Drop)]
+#[derive(Clone, Copy)]
 pub struct Bench {
     pub rig: Rig,
     pub desk: Desk,
 }
 
 // After a word: the bench, and what the sender hears.
-#[derive(Drop)]
+#[derive(Clone, Copy)]
 pub struct Worded {
     pub bench: Bench,
     pub reply: Reply,

@@ -1,11 +1,13 @@
 // Data blocks (EDBs), NM and BM1: their kinds and parts, and why one is refused. Where a part of a kind stands is told by crate `placing`.
 // Keeps 01 "Data blocks" and the rows 19 to 23 of "What the numbers mean".
+#![tactic(auto)]
+
 ghost use Rattle.std.specs.Prelude.{◌≡◌};
 ghost use Rattle.block.specs.Refusals.{number_of};
 ghost use Rattle.block.specs.Kinds.{length_of, marker_of};
 
 // Why nothing is handed back: 19 to 24. The last is of the IFFT block alone.
-#[derive(Drop)]
+#[derive(Clone, Copy)]
 pub enum Refusal {
     NoMarker,
     WrongLength,
@@ -16,21 +18,21 @@ pub enum Refusal {
 }
 
 // The kinds of blocks.
-#[derive(Drop)]
+#[derive(Clone, Copy)]
 pub enum Kind {
     Nm,
     Bm1,
 }
 
 // What a block is, with its two content descriptors. The second counts as 0 where it is not looked at.
-#[derive(Drop)]
+#[derive(Clone, Copy)]
 pub enum Layout {
     Is(Kind, u8, u8),
     Bad(Refusal),
 }
 
 // The parts of G's position tables, in the order of NM's.
-#[derive(Drop)]
+#[derive(Clone, Copy)]
 pub enum Part {
     Marker,
     Index,
@@ -54,7 +56,7 @@ pub enum Part {
 }
 
 // A part's first byte and its length, or why it is refused.
-#[derive(Drop)]
+#[derive(Clone, Copy)]
 pub enum Located {
     At(usize, usize),
     Refused(Refusal),

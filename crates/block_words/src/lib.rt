@@ -1,5 +1,7 @@
 // A closed block judged, whose check is right: what it does to the rig's core, and when it is refused.
 // Keeps 01 "Command words": the table's last three rows, their refusals in order; bits not named are ignored.
+#![tactic(auto)]
+
 ghost use Rattle.std.specs.Prelude.{◌≡◌};
 ghost use Rattle.judge.specs.Records.{with_mux, with_direction, with_energy};
 ghost use Rattle.judge.specs.Commands.{mux_word, window_of, counted_of, block_of};

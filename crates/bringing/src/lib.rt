@@ -1,5 +1,7 @@
 // What a whole frame brings: the cells of all items after it, row by row.
 // Keeps 01 "The 40-byte frame", its paragraph on the desk: a plain item is as old as its frame, a spread number as its first frame.
+#![tactic(auto)]
+
 ghost use Rattle.std.specs.Prelude.{◌≡◌, get_or};
 ghost use Rattle.frame.specs.Items.{row_of};
 ghost use Rattle.frame.specs.Read.{read_of};

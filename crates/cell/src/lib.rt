@@ -1,19 +1,21 @@
 // One item of the desk: what is held of it, and what that shows.
 // Keeps 01 "The 40-byte frame", the items of its paragraph on the desk: unknown, or a value with its age in slots.
+#![tactic(auto)]
+
 ghost use Rattle.std.specs.Prelude.{◌≡◌};
 ghost use Rattle.cell.specs.Cell.{blank, aged_of, latest_of, shown_by, cell_of, cell_after};
 
 use base::Frames;
 
 // What the desk shows of an item: nothing yet, or a value with its age in slots.
-#[derive(Drop)]
+#[derive(Clone, Copy)]
 pub enum Shown {
     Unknown,
     Known(u32, Frames),
 }
 
 // What is held of an item: its value and its age. No age passes 65,535: a greater one stands for unknown.
-#[derive(Drop)]
+#[derive(Clone, Copy)]
 pub struct Cell {
     value: u32,
     age: Frames,

@@ -1,5 +1,7 @@
 // The cells of all items, row by row: the one in a row, and what a miss makes of them.
 // Keeps 01 "The 40-byte frame", its paragraph on the desk: each slot makes an item older.
+#![tactic(auto)]
+
 ghost use Rattle.std.specs.Prelude.{◌≡◌, get_or};
 ghost use Rattle.cell.specs.Cell.{blank};
 ghost use Rattle.cells.specs.Cells.{cells_after, nothing};

@@ -1,5 +1,7 @@
 // The 40 bytes composed from what is held and from the latch.
 // Keeps 01 "The 40-byte frame" and 02 (iv). What stands in each byte is said in crate `frame`; crate `writing` puts the bytes into the caller's buffer.
+#![tactic(auto)]
+
 ghost use Rattle.std.specs.Prelude.{◌≡◌, ◌%◌};
 ghost use Rattle.frame.specs.Write.{quarter_of, ground_at, mux_of, frame_of};
 

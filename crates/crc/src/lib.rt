@@ -1,5 +1,7 @@
 // The check of a block command, and the judgement of a received one.
 // Keeps 01 "Command words": the CRC of width 8, polynomial 07h, start 0, no reflection, no final change; and 02 (iii): eight shift steps for each byte.
+#![tactic(auto)]
+
 ghost use Rattle.std.specs.Prelude.{◌≡◌};
 ghost use Rattle.crc.specs.Crc.{shift, crc_byte, crc_of};
 ghost use Rattle.crc.specs.Judged.{judge_of};
@@ -42,7 +44,7 @@ pub fn check_of(s: &[u8]) -> u8
 }
 
 // How a received check compares with the computed one.
-#[derive(Drop)]
+#[derive(Clone, Copy)]
 pub enum Judged {
     Right,
     Wrong,

@@ -1,5 +1,7 @@
 // A stream cut into lines, in whatever pieces it comes. What is held of a line is in a buffer that the caller lends.
 // For lines that are typed. Nothing is written behind the buffer.
+#![tactic(auto)]
+
 ghost use Rattle.std.specs.Prelude.{◌≡◌, drop};
 ghost use Rattle.cutting.specs.Cut.{start, grown, kept, said_of, last_of, cut, step_of};
 
@@ -7,11 +9,11 @@ ghost use Rattle.cutting.specs.Cut.{start, grown, kept, said_of, last_of, cut, s
 pub const ROOM: usize = 128;
 
 // How many bytes of the line in hand have come: they are at the front of the buffer. More than ROOM stands for a line that is too long.
-#[derive(Drop)]
+#[derive(Clone, Copy)]
 pub struct Held(pub usize);
 
 // What a call says: a line is ready, so many bytes at the front of the buffer; a line was too long; or no line is ready.
-#[derive(Drop)]
+#[derive(Clone, Copy)]
 pub enum Said {
     Line(usize),
     TooLong,
@@ -19,7 +21,7 @@ pub enum Said {
 }
 
 // What is held then, the place of the piece where the next call goes on, and what is said.
-#[derive(Drop)]
+#[derive(Clone, Copy)]
 pub struct Step {
     pub held: Held,
     pub at: usize,

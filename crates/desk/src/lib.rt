@@ -1,5 +1,7 @@
 // The desk: slots in, items out, each unknown or a value with its age.
 // Keeps 01 "The 40-byte frame", its paragraph on the desk; a frame not of 40 bytes is 17, and no slot passes.
+#![tactic(auto)]
+
 ghost use Rattle.std.specs.Prelude.{◌≡◌, length, get_or};
 ghost use Rattle.frame.specs.Items.{row_of};
 ghost use Rattle.frame.specs.Read.{index_of};
@@ -9,21 +11,21 @@ use cell::{Cell, Shown};
 use frame::{Arrived, ITEMS, Item, Refusal};
 use half::Half;
 
-#[derive(Drop)]
+#[derive(Clone, Copy)]
 pub struct Desk {
     cells: [Cell; ITEMS],
     half: Half,
 }
 
 // What became of the bytes in a slot.
-#[derive(Drop)]
+#[derive(Clone, Copy)]
 pub enum Answer {
     Heard,
     Missed,
     Refused(Refusal),
 }
 
-#[derive(Drop)]
+#[derive(Clone, Copy)]
 pub struct Received {
     pub answer: Answer,
     pub desk: Desk,

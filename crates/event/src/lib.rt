@@ -1,5 +1,7 @@
 // Direct events, read by number from a data block; and what an entry is that is read by number, of the IFFT block too.
 // Keeps 01 "Data blocks" (direct events) and the rows 22 and 23 of "What the numbers mean".
+#![tactic(auto)]
+
 ghost use Rattle.std.specs.Prelude.{◌≡◌};
 ghost use Rattle.event.specs.Event.{direction_of, event_from, event_in, events_in, direct_of};
 ghost use Rattle.event.specs.Steps.{direct_at};
@@ -7,14 +9,14 @@ ghost use Rattle.event.specs.Steps.{direct_at};
 use block::{Kind, Layout, Located, Part, Refusal};
 
 // A head 1 to 3 with its finer direction 0 to 3, a head alone, or unknown.
-#[derive(Drop)]
+#[derive(Clone, Copy)]
 pub enum Direction {
     Head(u8, u8),
     HeadOnly(u8),
     Unknown,
 }
 
-#[derive(Drop)]
+#[derive(Clone, Copy)]
 pub struct Event {
     pub energy: u8,
     pub time: u8,
@@ -23,28 +25,28 @@ pub struct Event {
 }
 
 // What is asked for by number, or why it is refused.
-#[derive(Drop)]
+#[derive(Clone, Copy)]
 pub enum Evented {
     Is(Event),
     Refused(Refusal),
 }
 
 // Two words of the compressed matrix, marked bad where the parity of the second is wrong.
-#[derive(Drop)]
+#[derive(Clone, Copy)]
 pub struct MatrixItem {
     pub first: u16,
     pub second: u16,
     pub good: bool,
 }
 
-#[derive(Drop)]
+#[derive(Clone, Copy)]
 pub enum Itemed {
     Is(MatrixItem),
     Refused(Refusal),
 }
 
 // Where what is asked for by number begins, or why it is refused.
-#[derive(Drop)]
+#[derive(Clone, Copy)]
 pub enum Entry {
     At(usize),
     Refused(Refusal),

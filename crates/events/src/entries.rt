@@ -22,7 +22,7 @@ fn say_itemed(itemed: Itemed) {
 }
 
 // What is asked for: an event, or a matrix item.
-#[derive(Drop)]
+#[derive(Clone, Copy)]
 enum Entry {
     Event,
     Item,

@@ -1,10 +1,12 @@
 // The 40-byte housekeeping frame: what it shows. Crate `writing` writes it, `arriving` tells what arrived in a slot, `reading` reads the items.
 // Keeps 01 "The 40-byte frame", and the places of 02 (iv); the numbers 17 and 18.
+#![tactic(auto)]
+
 ghost use Rattle.std.specs.Prelude.{◌≡◌};
 ghost use Rattle.frame.specs.Items.{row_of, number_of};
 
 // What a frame shows: the present value of each item, in the order of the rows. A switch is 0 or 1.
-#[derive(Drop)]
+#[derive(Clone, Copy)]
 pub struct Held {
     pub parallel: u8,
     pub mux1: u8,
@@ -45,7 +47,7 @@ pub struct Held {
 // How many items there are.
 pub const ITEMS: usize = 33;
 
-#[derive(Drop)]
+#[derive(Clone, Copy)]
 pub enum Item {
     Parallel,
     Multiplexer1,
@@ -82,20 +84,20 @@ pub enum Item {
     DeflectionLevel,
 }
 
-#[derive(Drop)]
+#[derive(Clone, Copy)]
 pub enum Refusal {
     NotForty,
     NoRoom,
 }
 
-#[derive(Drop)]
+#[derive(Clone, Copy)]
 pub enum Wrote {
     Done,
     Refused(Refusal),
 }
 
 // What arrived in a slot: a whole frame (its index, and byte 39), or fill.
-#[derive(Drop)]
+#[derive(Clone, Copy)]
 pub enum Arrived {
     Whole(u8, u8),
     FillC0,
@@ -104,7 +106,7 @@ pub enum Arrived {
 }
 
 // What a frame tells of an item.
-#[derive(Drop)]
+#[derive(Clone, Copy)]
 pub enum Reading {
     Nothing,
     Value(u32),

@@ -1,5 +1,7 @@
 // A number that is spread over frames: what is half read of it, and when it is complete.
 // Keeps 01 "The 40-byte frame", the spread numbers of its paragraph on the desk: they begin at their first frame, and an index out of turn discards them.
+#![tactic(auto)]
+
 ghost use Rattle.std.specs.Prelude.{◌≡◌, ◌<◌};
 ghost use Rattle.half.specs.Half.{begins, grown_of, born_at, spread_of, kept_at, partly, half_at};
 
@@ -7,14 +9,14 @@ use base::Frames;
 use cell::Shown;
 
 // What is half read of a number spread over frames: the index that must come next, and the bytes so far.
-#[derive(Drop)]
+#[derive(Clone, Copy)]
 pub enum Half {
     Nothing,
     Part(u8, u32),
 }
 
 // The number that the bytes so far make, the last frame's included.
-#[derive(Drop)]
+#[derive(Clone, Copy)]
 pub enum SoFar {
     None,
     Bytes(u32),

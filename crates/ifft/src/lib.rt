@@ -1,5 +1,7 @@
 // The IFFT block: its events and its matrix items, read by number from a data block.
 // Keeps 01 "Data blocks" (IFFT2) and the rows 22 and 24 of "What the numbers mean". What an entry is is said in crate `event`.
+#![tactic(auto)]
+
 ghost use Rattle.std.specs.Prelude.{◌≡◌, ◌+◌, ◌≤◌, length};
 ghost use Rattle.event.specs.Ifft.{is_nm, turn, wrong, word_at, item_at, event_of, item_of};
 ghost use Rattle.event.specs.Steps.{ifft_at};

@@ -1,5 +1,7 @@
 // The items of a frame by row and by name, for those who list them or ask for one.
 // Keeps 01 "The 40-byte frame" and 02 (iv), their items in the order of their rows.
+#![tactic(auto)]
+
 ghost use Rattle.std.specs.Prelude.{◌≡◌, ◌≤◌};
 ghost use Rattle.item_names.specs.Names.{name_of, item_in};
 
@@ -7,7 +9,7 @@ use frame::Item;
 use names::NAME;
 
 // The item of a row, or none past the last.
-#[derive(Drop)]
+#[derive(Clone, Copy)]
 pub enum InRow {
     Nothing,
     Is(Item),

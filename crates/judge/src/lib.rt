@@ -1,5 +1,7 @@
 // The command table: what commands move, and why a word is refused, with its number. Crates `single_words` and `block_words` judge by it.
 // Keeps of 01 "Command words" the numbers; the table's rows, their refusals in order, are defined here.
+#![tactic(auto)]
+
 ghost use Rattle.std.specs.Prelude.{◌≡◌};
 ghost use Rattle.judge.specs.Refusals.{number_of};
 ghost use Rattle.judge.specs.Records.{supply_at, with_supply};
@@ -7,33 +9,33 @@ ghost use Rattle.judge.specs.Records.{supply_at, with_supply};
 use supply::Supply;
 
 // The multiplexer word: all of byte 1, and bit 0 of byte 2.
-#[derive(Drop)]
+#[derive(Clone, Copy)]
 pub struct Mux {
     pub byte: u8,
     pub bit: bool,
 }
 
-#[derive(Drop)]
+#[derive(Clone, Copy)]
 pub struct Window {
     pub start: u8,
     pub stop: u8,
 }
 
 // What the three blocks set.
-#[derive(Drop)]
+#[derive(Clone, Copy)]
 pub struct Sensor {
     pub mux: Mux,
     pub direction: Window,
     pub energy: Window,
 }
 
-#[derive(Drop)]
+#[derive(Clone, Copy)]
 pub struct Iel {
     pub clock: bool,
     pub enable: bool,
 }
 
-#[derive(Drop)]
+#[derive(Clone, Copy)]
 pub struct Settings {
     pub parallel: bool,
     pub mask: u8,
@@ -42,7 +44,7 @@ pub struct Settings {
 }
 
 // The three supplies (02 (iv)): stop MCP, start MCP, deflection.
-#[derive(Drop)]
+#[derive(Clone, Copy)]
 pub enum Which {
     Stop,
     Start,
@@ -50,7 +52,7 @@ pub enum Which {
 }
 
 // What commands move. It holds no array, so an enum can hold it.
-#[derive(Drop)]
+#[derive(Clone, Copy)]
 pub struct Core {
     pub stop: Supply,
     pub start: Supply,
@@ -59,7 +61,7 @@ pub struct Core {
 }
 
 // Why a word or a closed block is refused. A dropped block (03h) is told by the rig's reply and has no case here.
-#[derive(Drop)]
+#[derive(Clone, Copy)]
 pub enum Refusal {
     RelayOff,
     Disabled,
@@ -73,7 +75,7 @@ pub enum Refusal {
     UnknownCode,
 }
 
-#[derive(Drop)]
+#[derive(Clone, Copy)]
 pub enum Verdict {
     Apply(Core),
     Deny(Refusal),

@@ -1,5 +1,7 @@
 // The last line of a listing, put into a page that the caller lends, at a place.
 // Keeps 01 "Bench cases": the lister's last line.
+#![tactic(auto)]
+
 ghost use Rattle.std.specs.Prelude.{◌≡◌, ◌+◌, ◌≤◌, length};
 ghost use Rattle.text.specs.Page.{Puts, fitting};
 ghost use Rattle.last_line.specs.LastLine.{LAST, codes_of, last_line};

@@ -1,5 +1,7 @@
 // The latch: a number spread over frames, kept as it was when its first frame was built.
 // Keeps 01 "The 40-byte frame", the latching of its spread numbers.
+#![tactic(auto)]
+
 ghost use Rattle.std.specs.Prelude.{◌≡◌};
 ghost use Rattle.frame.specs.Write.{latch_of};
 

@@ -1,5 +1,7 @@
 // What the bytes of a data block tell of it: its kind and its descriptors.
 // Keeps 01 "Data blocks" and the rows 19 to 21 of "What the numbers mean". What a kind is, is said in crate `block`.
+#![tactic(auto)]
+
 ghost use Rattle.std.specs.Prelude.{◌≡◌, ◌+◌, ◌≤◌, length};
 ghost use Rattle.block.specs.Kinds.{length_of, second_at};
 ghost use Rattle.block.specs.Layout.{marker, inner, layout_of};
@@ -9,7 +11,7 @@ ghost use Rattle.layout.specs.Steps.{layout_by, sort_of};
 use block::{Kind, Layout, Refusal};
 
 // What a block was found to be, descriptors aside.
-#[derive(Drop)]
+#[derive(Clone, Copy)]
 enum Sort {
     Nm,
     Bm1,
@@ -20,7 +22,7 @@ enum Sort {
 
 // The same as `Layout`, with the descriptors in one place whatever the case, so that the compiler can keep them out of memory.
 // Where the block is refused they say nothing.
-#[derive(Drop)]
+#[derive(Clone, Copy)]
 struct Seen(Sort, u8, u8);
 
 // Where the first content descriptor stands.

@@ -1,5 +1,7 @@
 // The lines of a word in a listing, put into a page that the caller lends, at a place.
 // Keeps 01 "Bench cases": the lister's text.
+#![tactic(auto)]
+
 ghost use Rattle.std.specs.Prelude.{◌≡◌, ◌++◌, ◌+◌, ◌≤◌, length};
 ghost use Rattle.base.specs.Ascii.{ascii};
 ghost use Rattle.text.specs.Digits.{hex_byte, hex_word};

@@ -1,17 +1,19 @@
 // The lister: reads words from standard input, high byte first, and writes each with what the rig answers.
 // Keeps 01 "Bench cases": the lister. What it writes is `listing`'s; it only reads and writes.
+#![tactic(auto)]
+
 use libc::{STDERR_FILENO, STDIN_FILENO, STDOUT_FILENO};
 use listing::Lister;
 
 // How a turn of the reading loop ends: more may come, the input has ended, or a read or a write failed.
-#[derive(Drop)]
+#[derive(Clone, Copy)]
 enum Next {
     More,
     End,
     Failed,
 }
 
-#[derive(Drop)]
+#[derive(Clone, Copy)]
 struct Turned {
     lister: Lister,
     next: Next,

@@ -1,5 +1,7 @@
 // A listing: what is held of it between two pieces of its stream, how it begins and how it ends. It reads and writes nothing itself.
 // Keeps 01 "Bench cases": the lister.
+#![tactic(auto)]
+
 ghost use Rattle.std.specs.Prelude.{◌≡◌, length};
 ghost use Rattle.listing.specs.Listing.{first_line, start_lister, end_of, listed};
 ghost use Rattle.listing.specs.Front.{at_front, Within};
@@ -12,20 +14,20 @@ pub const PIECE: usize = 4096;
 pub const PAGE: usize = PIECE * lines::PAIR;
 
 // The high byte of a word whose low byte has not come.
-#[derive(Drop)]
+#[derive(Clone, Copy)]
 pub enum Lone {
     Nothing,
     High(u8),
 }
 
-#[derive(Drop)]
+#[derive(Clone, Copy)]
 pub struct Lister {
     pub rig: Rig,
     pub lone: Lone,
 }
 
 // The lister after a piece, and how many bytes of the page its text takes.
-#[derive(Drop)]
+#[derive(Clone, Copy)]
 pub struct Listed {
     pub lister: Lister,
     pub len: usize,

@@ -1,5 +1,7 @@
 // Where a part stands in a data block, and its bytes.
 // Keeps 01 "Data blocks" and the rows 19 to 23 of "What the numbers mean". What a block is, is told by crate `layout`.
+#![tactic(auto)]
+
 ghost use Rattle.std.specs.Prelude.{◌≡◌};
 ghost use Rattle.block.specs.Parts.{locate_of, bytes_of};
 

@@ -1,5 +1,7 @@
 // The menu: reads lines from standard input and writes the answer to each: the words of a command in hex, what words in hex mean, or a refusal's number.
 // Keeps 02 (i): the class picks from a menu. What it writes is `answering`'s, and what a line is `cutting`'s; it only reads and writes.
+#![tactic(auto)]
+
 use cutting::{Held, ROOM, Said};
 use libc::{STDERR_FILENO, STDIN_FILENO, STDOUT_FILENO};
 
@@ -7,7 +9,7 @@ use libc::{STDERR_FILENO, STDIN_FILENO, STDOUT_FILENO};
 const PIECE: usize = 4096;
 
 // How a turn of the reading loop ends: more may come, the input has ended, or a read or a write failed.
-#[derive(Drop)]
+#[derive(Clone, Copy)]
 enum Next {
     More(Held),
     End,

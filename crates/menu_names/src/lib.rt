@@ -1,5 +1,7 @@
 // The names of the menu's rows, and the row that the first words of a line name.
 // Keeps 02 (i): a named command; (iv): the rows of one supply behind those of another, each with target, limit, stepping. A name is one word or two.
+#![tactic(auto)]
+
 ghost use Rattle.std.specs.Prelude.{◌≡◌, ◌≤◌, length};
 ghost use Rattle.splitting.specs.Words.{words_of};
 ghost use Rattle.menu_names.specs.Names.{name_words, name_of, called, find_of};

@@ -1,6 +1,8 @@
 // The rows of the menu, from which the class picks: the command of a row with its settings, and the row of a command.
 // Keeps 02 (i): a named command with its settings; (iv): three rows for each supply. The relay has a row for each setting of its two bits, so that no
 // number is typed for it.
+#![tactic(auto)]
+
 ghost use Rattle.std.specs.Prelude.{◌≡◌, ◌≤◌};
 ghost use Rattle.menu_rows.specs.Rows.{wanted, made, relay_row, first_row, entry_at, entry_of};
 
@@ -8,7 +10,7 @@ use judge::Which;
 use wording::Command;
 
 // A command as it stands in the menu: its row, and its settings, 0 where it has none.
-#[derive(Drop)]
+#[derive(Clone, Copy)]
 pub struct Entry {
     pub row: usize,
     pub first: u8,

@@ -1,5 +1,7 @@
 // What is refused: 25 a setting too wide, 26 too little room, 38 words that are not one command of 01. Then words that are read, though a rig may refuse them.
 // Keeps 02 (i) and (iv), run by the compiled code; what is printed is held to the file `stdout`.
+#![tactic(auto)]
+
 use judge::Which;
 use wording::{Command, Meant, Refusal, Wrote};
 

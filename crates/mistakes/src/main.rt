@@ -1,5 +1,7 @@
 // Four of the class's mistakes, as runs that show what the desk shows, slot by slot; what is printed is held to the file `stdout`.
 // Keeps 01 "What students would slip past us" and the desk's paragraph of "The 40-byte frame"; 02 (ii), the register.
+#![tactic(auto)]
+
 use bench::Bench;
 use desk::Desk;
 use frame::Item;
@@ -88,7 +90,7 @@ const WINDOW_TOO_EARLY: [u32; 18] = [
 ];
 
 // Which items the lines of a run end with.
-#[derive(Drop)]
+#[derive(Clone, Copy)]
 enum Shows {
     Check,
     Counter,

@@ -1,5 +1,7 @@
 // Names of one length in a text, one after the other, and the name in a row of it.
 // For crates `item_names` and `part_names`, which have the names of 01 and of G.
+#![tactic(auto)]
+
 ghost use Rattle.std.specs.Prelude.{◌≡◌, ◌+◌, ◌*◌, ◌≤◌, length, take, drop};
 ghost use Rattle.names.specs.Names.{name_in};
 

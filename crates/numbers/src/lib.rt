@@ -1,5 +1,7 @@
 // What a reply says in the paper's numbers, for one who has the reply at run time.
 // Keeps 01 "Command words": the number of each refusal, and that one word can give two.
+#![tactic(auto)]
+
 ghost use Rattle.std.specs.Prelude.{◌≡◌, [], ◌∷◌, ◌≤◌};
 ghost use Rattle.rig.specs.Replies.{answer_refusals, refusals_of, numbers_in};
 

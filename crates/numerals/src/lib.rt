@@ -1,5 +1,7 @@
 // Numbers in text: in decimal into a page that the caller lends, and out of a text, in decimal and in hex.
 // For lines that are typed, and the answers to them. Nothing is written behind the page.
+#![tactic(auto)]
+
 ghost use Rattle.std.specs.Prelude.{◌≡◌, ◌+◌, ◌*◌, ◌%◌, ◌≤◌, ◌<◌, min, length, drop};
 ghost use Rattle.text.specs.Digits.{digit};
 ghost use Rattle.text.specs.Page.{Puts, fitting};
@@ -8,7 +10,7 @@ ghost use Rattle.numerals.specs.Decimal.{decimal, number_in, number_of};
 ghost use Rattle.numerals.specs.Hex.{word_of};
 
 // What a text spells.
-#[derive(Drop)]
+#[derive(Clone, Copy)]
 pub enum Number {
     Is(u32),
     NotANumber,
@@ -16,14 +18,14 @@ pub enum Number {
 }
 
 // What four hex digits spell.
-#[derive(Drop)]
+#[derive(Clone, Copy)]
 pub enum Word {
     Value(u16),
     NotAWord,
 }
 
 // The digits of a number, from a place of ten bytes to their end.
-#[derive(Drop)]
+#[derive(Clone, Copy)]
 struct Made {
     bytes: [u8; 10],
     from: usize,

@@ -1,5 +1,7 @@
 // Every row of the menu with every setting that a byte holds: written or refused 25, read back and written again, sent to two rigs. A line for each row.
 // Keeps 02 (i) and (iv), run by the compiled code; what is printed is held to the file `stdout`.
+#![tactic(auto)]
+
 mod outcome; // outcome.rt: what one command comes to
 mod trying; // trying.rt: a command's words, sent or read back
 

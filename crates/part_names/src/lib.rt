@@ -1,5 +1,7 @@
 // The parts of a data block by number and by name, for those who list them or ask for one.
 // Keeps 01 "Data blocks", the parts of G's position tables.
+#![tactic(auto)]
+
 ghost use Rattle.std.specs.Prelude.{◌≡◌};
 ghost use Rattle.part_names.specs.Names.{part_name, part_in};
 
@@ -10,7 +12,7 @@ use names::NAME;
 pub const PARTS: usize = 19;
 
 // The part of a number, in the order of NM's table, or none past the last.
-#[derive(Drop)]
+#[derive(Clone, Copy)]
 pub enum Listed {
     Nothing,
     Is(Part),

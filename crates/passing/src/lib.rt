@@ -1,5 +1,7 @@
 // A frame built, and handed to the desk at once.
 // Keeps 01 "The 40-byte frame"; where there is no room (18) no slot passes. What the bench then is is said in crate `slots`.
+#![tactic(auto)]
+
 ghost use Rattle.std.specs.Prelude.{◌≡◌};
 ghost use Rattle.sending.specs.Sending.{filled_of};
 ghost use Rattle.slots.specs.Slots.{arrived_bench};

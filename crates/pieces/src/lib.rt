@@ -1,5 +1,7 @@
 // A piece of the stream listed: bytes in, the page of their lines out. It reads and writes nothing itself.
 // Keeps 01 "Bench cases": the lister; words are read high byte first.
+#![tactic(auto)]
+
 ghost use Rattle.std.specs.Prelude.{◌≡◌, ◌+◌, ◌*◌, ◌≤◌, length, take};
 ghost use Rattle.text.specs.Page.{Puts};
 ghost use Rattle.lines.specs.Bounds.{PAIR};

@@ -1,5 +1,7 @@
 // Frames built at a place of a larger buffer, and bytes of a wrong length handed to the desk; what is printed is held to the file `stdout`.
 // Keeps 01 "What the numbers mean", rows 17 and 18: nothing changed, no frame used up.
+#![tactic(auto)]
+
 use bench::Bench;
 use desk::{Answer, Desk};
 use frame::{Arrived, Item, Refusal, Wrote};

@@ -1,5 +1,7 @@
 // Where a part of a kind of data block stands, which parts test data hide, and the number of a part.
 // Keeps 01 "Data blocks" and the rows 22 and 23 of "What the numbers mean". What a kind and a part are is said in crate `block`.
+#![tactic(auto)]
+
 ghost use Rattle.std.specs.Prelude.{◌≡◌, ◌||◌, ◌/◌, ◌%◌, ◌<◌, eqb};
 ghost use Rattle.block.specs.Tables.{row_of};
 ghost use Rattle.block.specs.Parts.{place_of};
@@ -8,7 +10,7 @@ ghost use Rattle.placing.specs.Steps.{columns_of, hides, found_at};
 use block::{Kind, Located, Part, Refusal};
 
 // Which test data hide a part: none; those of the whole block; those and the ions' or the electrons' own.
-#[derive(Drop)]
+#[derive(Clone, Copy)]
 enum Group {
     Open,
     Whole,
@@ -17,7 +19,7 @@ enum Group {
 }
 
 // A part's row in a table: its number, which test data hide it, its first byte and its length. A length of 0: not in that kind.
-#[derive(Drop)]
+#[derive(Clone, Copy)]
 struct Columns(usize, Group, usize, usize);
 
 // G's position table of NM.

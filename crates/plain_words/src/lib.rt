@@ -1,5 +1,7 @@
 // A command in plain words, put into a page that the caller lends, at a place: its name, and its settings in decimal.
 // Keeps 02 (i): hex words back to plain words.
+#![tactic(auto)]
+
 ghost use Rattle.std.specs.Prelude.{◌∷◌, ◌+◌, ◌≤◌, length};
 ghost use Rattle.text.specs.Page.{Puts, fitting};
 ghost use Rattle.numerals.specs.Decimal.{decimal};

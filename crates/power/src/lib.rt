@@ -1,12 +1,14 @@
 // Power cuts, spins, and the instructor's settings.
 // Keeps 01 "Spins and power", 02 (ii), the register, and 02 (iv), three supplies. The spin is carried out on each supply's record.
+#![tactic(auto)]
+
 ghost use Rattle.std.specs.Prelude.{◌≡◌};
 ghost use Rattle.power.specs.Power.{spun_of, cut_of, panel_of, set_of};
 
 use rig::{Panel, Rig};
 
 // A setting by the instructor.
-#[derive(Drop)]
+#[derive(Clone, Copy)]
 pub enum PanelSetting {
     Bias(u8),
     Ground(u8),

@@ -1,5 +1,7 @@
 // Texts on standard output: bytes in hex, as 01 writes them, and numbers in decimal.
 // Nothing of 01 is decided here, and nothing is said of what is printed: programs stand on it, and their `stdout` is held to a file.
+#![tactic(auto)]
+
 use libc::STDOUT_FILENO;
 
 pub fn text(s: &[u8]) {

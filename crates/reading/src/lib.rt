@@ -1,5 +1,7 @@
 // What a frame tells of an item, read by one table.
 // Keeps 01 "The 40-byte frame" and 02 (iv). What stands in each byte, and what is read out of it, is said in crate `frame`.
+#![tactic(auto)]
+
 ghost use Rattle.std.specs.Prelude.{◌≡◌, ◌+◌, ◌*◌, ◌/◌, ◌%◌, ◌<◌, length, get_or};
 ghost use Rattle.frame.specs.Items.{row_of};
 ghost use Rattle.frame.specs.Read.{read_of};
@@ -9,7 +11,7 @@ use frame::{Item, Reading};
 
 // Where an item stands: its word's first byte, what the word is divided by and the remainder then taken; the frames that bring it
 // (index % period == phase); and how many slots old its first frame is then, 0 for an item that one frame brings whole.
-#[derive(Drop)]
+#[derive(Clone, Copy)]
 struct Spot {
     byte: usize,
     div: u32,

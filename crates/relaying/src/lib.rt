@@ -1,5 +1,7 @@
 // The relay of the high voltage supplies: its word read, and carried out on one supply.
 // Keeps 01 "Command words", the single 08h.
+#![tactic(auto)]
+
 ghost use Rattle.std.specs.Prelude.{◌≡◌};
 ghost use Rattle.supply.specs.Rules.{relay_of, relayed};
 

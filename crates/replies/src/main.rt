@@ -1,5 +1,7 @@
 // A longer stream than the lister's example, word by word: it reaches every answer that the rig can give.
 // Keeps 01 "Bench cases": the lister's text; "Command words": each refusal, and each kind of word that drops a block.
+#![tactic(auto)]
+
 use libc::STDOUT_FILENO;
 use listing::Lister;
 

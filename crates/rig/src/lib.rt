@@ -1,5 +1,7 @@
 // The rig: what it is made of, and its start. Crates above it move it: `words` takes words, `power` spins and cuts, `sending` builds frames.
 // Keeps of 01 "Spins and power" the start, to which a power cut returns; the rules of "Command words" are defined here. It goes in by value and comes back.
+#![tactic(auto)]
+
 ghost use Rattle.std.specs.Prelude.{◌≡◌};
 ghost use Rattle.rig.specs.Words.{nothing_pending};
 ghost use Rattle.rig.specs.Start.{start_core, start_rig};
@@ -9,7 +11,7 @@ use judge::{Core, Iel, Mux, Refusal, Sensor, Settings, Window};
 use supply::Supply;
 
 // The kind of a word.
-#[derive(Drop)]
+#[derive(Clone, Copy)]
 pub enum Kind {
     Single,
     Head,
@@ -18,7 +20,7 @@ pub enum Kind {
 }
 
 // What refusals leave behind: the error code, the last invalid code, the invalid count.
-#[derive(Drop)]
+#[derive(Clone, Copy)]
 pub struct Faults {
     pub error: u8,
     pub last: u8,
@@ -26,7 +28,7 @@ pub struct Faults {
 }
 
 // The block that waits: its head's high byte, how many data words it has and how many came; of their low bytes the first two, and the check so far.
-#[derive(Drop)]
+#[derive(Clone, Copy)]
 pub struct Pending {
     pub waiting: bool,
     pub head: u8,
@@ -38,7 +40,7 @@ pub struct Pending {
 }
 
 // What the instructor sets.
-#[derive(Drop)]
+#[derive(Clone, Copy)]
 pub struct Panel {
     pub free: u16,
     pub bias: u8,
@@ -49,7 +51,7 @@ pub struct Panel {
 }
 
 // The index of the next frame, and the number latched for the frames that it is spread over.
-#[derive(Drop)]
+#[derive(Clone, Copy)]
 pub struct Sending {
     pub latch: u32,
     pub next: u8,
@@ -58,7 +60,7 @@ pub struct Sending {
 // No padding stands between the fields, here or in the two records above: it would be copied with the rig at every word. The order is measured: many
 // another one makes a word take twice as long (docs/FIGURES.md).
 // `core.settings.sensor` is what was ordered; `register` is the sensor's own, which a spin copies from it and frames show (02 (ii)).
-#[derive(Drop)]
+#[derive(Clone, Copy)]
 pub struct Rig {
     pub edbs: Spins,
     pub sending: Sending,
@@ -71,7 +73,7 @@ pub struct Rig {
 }
 
 // What a word does, by its kind and the block that waits, if one does: it is kept, closes the block, is swallowed with it, or is judged afresh.
-#[derive(Drop)]
+#[derive(Clone, Copy)]
 pub enum Way {
     Keep,
     Close,
@@ -80,7 +82,7 @@ pub enum Way {
 }
 
 // What a judged word comes to.
-#[derive(Drop)]
+#[derive(Clone, Copy)]
 pub enum Answer {
     Accepted,
     Waiting,
@@ -89,7 +91,7 @@ pub enum Answer {
 
 // What the sender of a word hears. Swallowed: the block was dropped, 03h, and the word went with it.
 // Dropped: the block was dropped, 03h, and then the word was judged afresh.
-#[derive(Drop)]
+#[derive(Clone, Copy)]
 pub enum Reply {
     Plain(Answer),
     Swallowed,
@@ -100,14 +102,14 @@ pub enum Reply {
 pub const DROPPED: u8 = 0x03;
 
 // The rig after a word, and the reply.
-#[derive(Drop)]
+#[derive(Clone, Copy)]
 pub struct Taken {
     pub rig: Rig,
     pub reply: Reply,
 }
 
 // The refusals that a reply gives, by number and in their order: how many, two at most, and 0 where there is none.
-#[derive(Drop)]
+#[derive(Clone, Copy)]
 pub struct Numbers {
     pub count: u8,
     pub first: u8,

@@ -1,5 +1,7 @@
 // A rig with every item set, one round of its frames, what the desk then shows of all items, and a power cut; held to the file `stdout`.
 // Keeps 01 "The 40-byte frame": what is written is what is read, each item at its age.
+#![tactic(auto)]
+
 use bench::Bench;
 use frame::Item;
 use power::PanelSetting;

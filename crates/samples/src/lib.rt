@@ -1,5 +1,7 @@
 // A sample block of each kind, whose bytes are their own positions but for the markers and the descriptors; and what programs print of kinds and refusals.
 // Keeps 01 "Data blocks": lengths, markers, and where the descriptors stand.
+#![tactic(auto)]
+
 ghost use Rattle.std.specs.Prelude.{◌≡◌, length};
 ghost use Rattle.samples.specs.Made.{positions, made_of};
 

@@ -1,5 +1,7 @@
 // The next frame, built from what the rig holds.
 // Keeps 01 "The 40-byte frame": the index rises modulo 32, a spread number is latched when its first frame is built, 18 uses no frame up.
+#![tactic(auto)]
+
 ghost use Rattle.std.specs.Prelude.{◌≡◌, ◌+◌, ◌%◌};
 ghost use Rattle.sending.specs.Sending.{bit, held_of, sent_with, built_of, filled_of};
 
@@ -8,7 +10,7 @@ use frame::{Held, Wrote};
 use rig::{Rig, Sending};
 
 // The rig after a frame was to be built, and whether it was.
-#[derive(Drop)]
+#[derive(Clone, Copy)]
 pub struct Built {
     pub rig: Rig,
     pub wrote: Wrote,

@@ -1,5 +1,7 @@
 // What a desk shows of bias and ground, as the sheet in volts.
 // Keeps 01 "Volts": the sheet holds both readings. Until both are known there is none.
+#![tactic(auto)]
+
 ghost use Rattle.frame.specs.declared.Item.TheVariants.{Bias, Ground};
 ghost use Rattle.frame.specs.Items.{row_of};
 ghost use Rattle.desk.specs.Desk.{shows};
@@ -10,7 +12,7 @@ use desk::Desk;
 use frame::Item;
 use volts::Sheet;
 
-#[derive(Drop)]
+#[derive(Clone, Copy)]
 pub enum Sheeted {
     Unknown,
     Is(Sheet),

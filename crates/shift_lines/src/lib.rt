@@ -1,5 +1,7 @@
 // The check followed step by step, as text: the nine lines of a byte, and the last line.
 // Keeps 02 (iii): what a student can be shown. The lines of a byte are of one length, so that the bits stand below each other.
+#![tactic(auto)]
+
 ghost use Rattle.std.specs.Prelude.{◌≡◌, ◌++◌, ◌+◌, ◌≤◌, length};
 ghost use Rattle.text.specs.Page.{Puts};
 ghost use Rattle.shift_lines.specs.Lines.{shown, start_text, step_text, byte_lines, check_line};

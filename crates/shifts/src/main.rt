@@ -1,12 +1,14 @@
 // The check followed: reads the data bytes of a block from standard input, and writes the eight shift steps of each, and then the check.
 // Keeps 02 (iii): a student can follow the check. What it writes is `shift_lines`'s, and the check `crc`'s; it only reads and writes.
+#![tactic(auto)]
+
 use libc::{STDERR_FILENO, STDIN_FILENO, STDOUT_FILENO};
 
 // The most bytes that are read at once.
 const PIECE: usize = 4096;
 
 // How a turn of the reading loop ends: more may come, with the check so far; the input has ended; or a read or a write failed.
-#[derive(Drop)]
+#[derive(Clone, Copy)]
 enum Next {
     More(u8),
     End,

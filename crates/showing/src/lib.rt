@@ -1,5 +1,7 @@
 // What the desk shows of an item, as text: its name, and unknown, or a value with its age; and which items moved.
 // Keeps 01 "The 40-byte frame": the items, in the order of their rows.
+#![tactic(auto)]
+
 use base::Frames;
 use cell::Shown;
 use desk::Desk;

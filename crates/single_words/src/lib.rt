@@ -1,5 +1,7 @@
 // A single word judged: what it does to the rig's core, and when it is refused.
 // Keeps 01 "Command words", the singles with their refusals in order, bits not named ignored; 02 (iv), start and deflection as stop.
+#![tactic(auto)]
+
 ghost use Rattle.std.specs.Prelude.{◌≡◌};
 ghost use Rattle.judge.specs.Refusals.{raised};
 ghost use Rattle.judge.specs.Records.{with_settings};

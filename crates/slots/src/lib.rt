@@ -1,5 +1,7 @@
 // The slots between rig and desk: a frame built, bytes handed to the desk, a slot missed. Crate `passing` has a frame built and its slot passed at once.
 // Keeps 01 "The 40-byte frame"; the demands are said of these functions' definitions.
+#![tactic(auto)]
+
 ghost use Rattle.std.specs.Prelude.{◌≡◌};
 ghost use Rattle.sending.specs.Sending.{filled_of};
 ghost use Rattle.slots.specs.Slots.{built_bench, handed_of, missed_bench};
@@ -9,28 +11,28 @@ use desk::Answer;
 use frame::{Refusal, Wrote};
 
 // After a frame was to be built: the bench, and whether there was room.
-#[derive(Drop)]
+#[derive(Clone, Copy)]
 pub struct Sent {
     pub bench: Bench,
     pub wrote: Wrote,
 }
 
 // After bytes were handed to the desk: the bench, and what the desk made of them.
-#[derive(Drop)]
+#[derive(Clone, Copy)]
 pub struct Handed {
     pub bench: Bench,
     pub answer: Answer,
 }
 
 // What became of a frame's slot: there was no frame (18), and no slot; or what the desk made of the slot.
-#[derive(Drop)]
+#[derive(Clone, Copy)]
 pub enum Outcome {
     NoFrame(Refusal),
     Slot(Answer),
 }
 
 // After a frame was built and its slot passed, whole or missed.
-#[derive(Drop)]
+#[derive(Clone, Copy)]
 pub struct Passed {
     pub bench: Bench,
     pub outcome: Outcome,

@@ -1,5 +1,7 @@
 // Whether a text is exactly a name, byte for byte.
 // For names that are typed. Capitals and small letters are told apart. What compares is the kit's; here it gets an equation for its promise.
+#![tactic(auto)]
+
 ghost use Rattle.std.specs.Prelude.{◌≡◌};
 ghost use Rattle.spelling.specs.Same.{same};
 

@@ -1,10 +1,12 @@
 // The words of a line: what stands between its spaces; how many there are, and each by its number.
 // For lines that are typed. Only a space parts words, and several count as one; a tab is a letter.
+#![tactic(auto)]
+
 ghost use Rattle.std.specs.Prelude.{◌≡◌, ◌+◌, [], length, get_or, drop};
 ghost use Rattle.splitting.specs.Words.{words_of, spaces, letters, span_at};
 
 // A word: its bytes are line[start..end]. Where there is no word the two are equal.
-#[derive(Drop)]
+#[derive(Clone, Copy)]
 pub struct Span {
     pub start: usize,
     pub end: usize,

@@ -1,5 +1,7 @@
 // The spin of a supply: its level goes one towards its target.
 // Keeps 01 "Spins and power", the level at a spin, carried out on the supply record itself.
+#![tactic(auto)]
+
 ghost use Rattle.std.specs.Prelude.{◌≡◌};
 ghost use Rattle.supply.specs.Rules.{towards, stepped};
 

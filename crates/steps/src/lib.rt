@@ -1,5 +1,7 @@
 // What is done to a bench step by step, each with its line: words sent, and spins.
 // Keeps 01 "Command words": what the sender of a word hears.
+#![tactic(auto)]
+
 ghost use Rattle.std.specs.Prelude.{◌≡◌, [], ◌∷◌};
 ghost use Rattle.steps.specs.Steps.{sent_one, sent_all, spun_times};
 

@@ -1,6 +1,8 @@
 // Each switch and each small setting by itself on a fresh rig: after 35 whole slots its own items have moved, and no other; held to the file `stdout`.
 // Keeps 01 "Command words" and "Spins and power": what each moves; "The 40-byte frame": each item has bits of its own. A block has its spin, 02 (ii);
 // each supply has commands of its own, and the relay is common, 02 (iv).
+#![tactic(auto)]
+
 use bench::Bench;
 use desk::Desk;
 use power::PanelSetting;

@@ -1,5 +1,7 @@
 // The commands to one supply: its target, its limit, and whether it steps.
 // Keeps 01 "Command words", the singles 28h, 29h and 2Dh.
+#![tactic(auto)]
+
 ghost use Rattle.std.specs.Prelude.{◌≡◌};
 ghost use Rattle.supply.specs.Rules.{targeted, limited, switched};
 

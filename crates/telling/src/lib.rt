@@ -1,5 +1,7 @@
 // The lines of a word that was sent, with what its sender hears, and of spins, for the programs that print them.
 // Keeps 01 "Command words": what the sender of a word hears.
+#![tactic(auto)]
+
 use rig::{Answer, Reply};
 
 fn answer_told(answer: Answer) {

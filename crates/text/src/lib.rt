@@ -1,5 +1,7 @@
 // Text for a page that the caller lends: a byte as two hex digits, a word as four, and a text put at a place.
 // Keeps 01 "Bench cases": the digits of the lister's text. Nothing is written behind the page.
+#![tactic(auto)]
+
 ghost use Rattle.std.specs.Prelude.{◌≡◌, ◌+◌, ◌≤◌, ◌<◌, length};
 ghost use Rattle.text.specs.Digits.{digit, hex_byte, hex_word};
 ghost use Rattle.text.specs.Page.{Puts, fitting};

@@ -1,8 +1,10 @@
 // The sheet: both readings in volts, from their raw bytes.
 // Keeps 01 "Volts": a whole number of 256ths, (128 - d) × 277 or × 10, cast without loss and divided by 256.
+#![tactic(auto)]
+
 ghost use Rattle.volts.specs.Volts.{Shows};
 
-#[derive(Drop)]
+#[derive(Clone, Copy)]
 pub struct Sheet {
     pub bias: f64,
     pub ground: f64,

@@ -1,5 +1,7 @@
 // The way of a word: what it does to the block that waits, if one does.
 // Keeps 01 "Command words": which word is kept, which closes the block, which is swallowed with it, which is judged afresh.
+#![tactic(auto)]
+
 ghost use Rattle.std.specs.Prelude.{◌≡◌};
 ghost use Rattle.rig.specs.Ways.{data_way, end_way, pending_way, way_of};
 

@@ -1,5 +1,7 @@
 // Words read back: one single, or one block of right length and check, to its command and settings.
 // Keeps 02 (i), and (iv), the commands of each supply: 38 for words that are not one command of 01; bits that 01 does not name are not looked at.
+#![tactic(auto)]
+
 ghost use Rattle.std.specs.Prelude.{◌≡◌, ◌&&◌, ◌/◌, ◌%◌, eqb};
 ghost use Rattle.wording.specs.Meaning.{single_meant, block_meant, is_block, four_meant, read_of};
 

@@ -1,6 +1,8 @@
 // A command's words written into a buffer that the caller lends: the single word, or the whole block with its check.
 // Keeps 02 (i): 25 a setting too wide, then 26 too few words of room; both leave the buffer untouched, and words behind those written stay.
 // Keeps of (iv) the commands of each supply.
+#![tactic(auto)]
+
 ghost use Rattle.std.specs.Prelude.{◌≡◌, true, ◌&&◌, [], ◌∷◌, ltb, ◌<◌, length};
 ghost use Rattle.wording.specs.Written.{fits, block, put_answer, put_into, wrote_of, written_of};
 ghost use Rattle.word_writer.specs.Forms.{of_supply, form_of};
@@ -9,7 +11,7 @@ use judge::Which;
 use wording::{Command, Refusal, Wrote};
 
 // What a command's words hold: a single's code and low byte; a block's code and its two bytes.
-#[derive(Drop)]
+#[derive(Clone, Copy)]
 pub enum Form {
     Single(u8, u8),
     Block(u8, u8, u8),

@@ -1,13 +1,15 @@
 // Commands by name, with their settings: what one is made of, the answers of those who write and read its words, and the numbers of their refusals.
 // Keeps 02 (i) and, of (iv), the commands of three supplies. Crate `word_writer` writes a command's words, `word_reader` reads words back; the rules of
 // both are defined here.
+#![tactic(auto)]
+
 ghost use Rattle.std.specs.Prelude.{◌≡◌};
 ghost use Rattle.wording.specs.Refusals.{number_of};
 
 use judge::Which;
 
 // The commands of 01's table, singles first, each with the settings that 01 reads; those of a supply tell which one (02 (iv)).
-#[derive(Drop)]
+#[derive(Clone, Copy)]
 pub enum Command {
     // 08h: the bit for on, then the bit for off.
     Relay(u8, u8),
@@ -32,7 +34,7 @@ pub enum Command {
 }
 
 // Why no word is written, or none is understood.
-#[derive(Drop)]
+#[derive(Clone, Copy)]
 pub enum Refusal {
     TooWide,
     NoRoom,
@@ -40,14 +42,14 @@ pub enum Refusal {
 }
 
 // How many words were written.
-#[derive(Drop)]
+#[derive(Clone, Copy)]
 pub enum Wrote {
     Words(usize),
     Refused(Refusal),
 }
 
 // What words mean.
-#[derive(Drop)]
+#[derive(Clone, Copy)]
 pub enum Meant {
     Is(Command),
     Refused(Refusal),

@@ -1,5 +1,7 @@
 // One word taken: by its way, it is kept, closes the block, is swallowed, or is judged afresh.
 // Keeps 01 "Command words": what it does to a pending block, and with which reply.
+#![tactic(auto)]
+
 ghost use Rattle.std.specs.Prelude.{◌≡◌, ◌<◌};
 ghost use Rattle.rig.specs.Words.{kind_of, one_more, verdict_of, closed_of, dropped_reply, take_of};
 ghost use Rattle.rig.specs.Ways.{unblocked_of, told_as};

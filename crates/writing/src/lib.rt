@@ -1,5 +1,7 @@
 // The 40-byte frame written: into the caller's buffer, at a place the caller names.
 // Keeps 01 "The 40-byte frame"; a place with no room is 18. What stands in each byte is said in crate `frame`, and crate `composing` makes the bytes.
+#![tactic(auto)]
+
 ghost use Rattle.std.specs.Prelude.{◌≡◌};
 ghost use Rattle.frame.specs.Write.{wrote_of, written};
 
