@@ -1,6 +1,6 @@
 -- `base::wide` meets its contract: the number stays, and a byte is below 256.
 -- Assumes nothing.
-use Rattle.std.proofs.Common.{refl, arith, rules}
+use Rattle.std.proofs.Common.{refl, rules}
 use Rattle.base.proofs.wide.Statement.{statement}
 use Rattle.base.proofs.wide.Tie as tie
 

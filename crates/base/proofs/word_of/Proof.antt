@@ -1,6 +1,6 @@
 -- `base::word_of` meets its contract: no sum leaves the range of a word.
 -- Assumes nothing.
-use Rattle.std.proofs.Common.{refl, arith, rules}
+use Rattle.std.proofs.Common.{refl, rules}
 use Rattle.base.proofs.word_of.Statement.{statement}
 use Rattle.base.proofs.word_of.Tie as tie
 
