@@ -19,7 +19,6 @@ use Rattle.block.specs.declared.Layout.{Layout}
 use Rattle.block.specs.declared.Layout.TheVariants.{Is, Bad}
 use Rattle.block.specs.declared.Part.{Part}
 use Rattle.block.specs.declared.Part.TheVariants.{Marker, Index, Descriptor1, Calibration, MSigns, Sgl0, DirectEvents, HSpct, ISpct, Sgl1, Sgl2, Sgl3, IPad, I3dd, Mtrx, Descriptor2, EPad, E3dd, M}
-use Rattle.block.specs.declared.Located.{Located}
 use Rattle.block.specs.declared.Located.TheVariants.{At, Refused}
 use Rattle.block.specs.Refusals.{Tests, unless}
 use Rattle.block.specs.Kinds.{kinds, length_of, marker_of, second_at}

@@ -1,7 +1,7 @@
 -- With descriptor 1 bit 2 set neither descriptor 2 nor the inner markers are looked at: what such a block answers goes by its
 -- length and its first five bytes alone. Assumes nothing.
 use mathlib.Core.Path.{◌≡◌, refl, ◌∙◌, ap}
-use mathlib.Core.Bool.{Bool, true, false, not, ◌||◌}
+use mathlib.Core.Bool.{Bool, true, false, not}
 use mathlib.Core.List.{List, []}
 use Prim.Native.Nat.{ℕ, ◌+◌, ◌≤◌, ◌<◌}
 use native.Mathlib.Omega.{arith}

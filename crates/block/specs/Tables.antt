@@ -1,6 +1,6 @@
 -- G's position tables (G 2.1; 01, "Data blocks": the parts are theirs, less spare bytes and inner markers).
 -- Assumes nothing.
-use Rattle.std.specs.Prelude.{Bool, false, ◌||◌, List, [], ◌∷◌, ℕ, zero, suc, eqb}
+use Rattle.std.specs.Prelude.{Bool, false, ◌||◌, List, [], ◌∷◌, ℕ, eqb}
 use Rattle.base.specs.Pick.{pick}
 use Rattle.block.specs.declared.Kind.{Kind}
 use Rattle.block.specs.declared.Kind.TheVariants.{Nm, Bm1}
