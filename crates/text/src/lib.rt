@@ -6,6 +6,7 @@ ghost use Rattle.std.specs.Prelude.{◌≡◌, ◌+◌, ◌≤◌, ◌<◌, leng
 ghost use Rattle.text.specs.Digits.{digit, hex_byte, hex_word};
 ghost use Rattle.text.specs.Page.{Puts, fitting};
 
+#[tactic(auto, unfolding(crate::specs::Digits::digit))]
 fn digit_of(d: u8) -> u8
     requires { d < 16 }
     ensures { result ≡ digit d }
@@ -38,11 +39,12 @@ fn put_in(text: &[u8], page: &mut [u8], at: usize) -> usize
     ensures { Puts at text.now page.old result page.new }
 {
     let next = at + text.len();
-    bytes::copy(text, &mut page[at..next]);
+    page[at..next].copy_from_slice(text);
     next
 }
 
 // A text into the page at a place; answers the place after it. Where the page has no room for it, nothing is put.
+#[tactic(auto, using(crate::proofs::Puts::put_nil), unfolding(crate::specs::Page::fitting))]
 pub fn put(text: &[u8], page: &mut [u8], at: usize) -> usize
     ensures { Puts at (fitting (length text.now) at page.old text.now) page.old result page.new }
 {
