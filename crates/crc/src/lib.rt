@@ -7,6 +7,7 @@ ghost use Rattle.crc.specs.Crc.{shift, crc_byte, crc_of};
 ghost use Rattle.crc.specs.Judged.{judge_of};
 
 // One shift step: the eight bits go up by one place, and the polynomial 07h is put in if a 1 fell out at the top.
+#[tactic(auto, unfolding(crate::specs::Crc::shift))]
 pub fn shift_step(x: u8) -> u8
     ensures { result ≡ shift x }
 {
@@ -18,6 +19,7 @@ pub fn shift_step(x: u8) -> u8
 }
 
 // The check after one byte more: the two put together, and eight shift steps. A loop, since the compiler knows it for a CRC and is quick with it.
+#[tactic(auto, using(crate::proofs::Steps::one_more_lem, crate::proofs::Steps::eight), unfolding(crate::proofs::Steps::shifts))]
 pub fn next(c: u8, b: u8) -> u8
     ensures { result ≡ crc_byte c b }
 {
@@ -31,6 +33,7 @@ pub fn next(c: u8, b: u8) -> u8
 }
 
 // The check over the bytes of a slice; over none it is 0.
+#[tactic(auto, using(crate::proofs::Walk::from_more, crate::proofs::Walk::from_end), unfolding(crate::specs::Crc::crc_of))]
 pub fn check_of(s: &[u8]) -> u8
     ensures { result ≡ crc_of s.now }
 {
