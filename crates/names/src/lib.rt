@@ -15,11 +15,12 @@ fn cut(names: &[u8], row: usize) -> [u8; NAME]
     let at = NAME * row;
     let end = at + NAME;
     let mut name = [0u8; NAME];
-    bytes::copy(&names[at..end], &mut name);
+    name.copy_from_slice(&names[at..end]);
     name
 }
 
 // The name in a row of a text of names, NAME bytes each; blanks past the last.
+#[tactic(auto, unfolding(crate::specs::Names::name_in))]
 pub fn name_in(names: &[u8], row: usize) -> [u8; NAME]
     ensures { result ≡ name_in names.now row }
 {
