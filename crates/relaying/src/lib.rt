@@ -8,6 +8,7 @@ ghost use Rattle.supply.specs.Rules.{relay_of, relayed};
 use supply::{Refusal, RelayWord, Supply};
 
 // 08h, read: bit 1 on, bit 5 off. It asks no supply, so that one word can switch several.
+#[tactic(auto, unfolding(supply::specs::Rules::relay_of))]
 pub fn relay_of(low: u8) -> RelayWord
     ensures { result ≡ relay_of low }
 {

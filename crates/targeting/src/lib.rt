@@ -8,6 +8,7 @@ ghost use Rattle.supply.specs.Rules.{targeted, limited, switched};
 use supply::{Change, Refusal, Supply};
 
 // 28h: bits 3-0 are the new target, which may be set while stepping.
+#[tactic(auto, unfolding(supply::specs::Rules::targeted))]
 pub fn set_target(s: Supply, low: u8) -> Change
     ensures { result ≡ targeted s low }
 {
@@ -27,6 +28,7 @@ pub fn set_target(s: Supply, low: u8) -> Change
 }
 
 // 29h: bits 3-0 are the new limit. The level stays, also where it is above: it goes down by spins alone.
+#[tactic(auto, unfolding(supply::specs::Rules::limited))]
 pub fn set_limit(s: Supply, low: u8) -> Change
     ensures { result ≡ limited s low }
 {
@@ -48,6 +50,7 @@ pub fn set_limit(s: Supply, low: u8) -> Change
 }
 
 // 2Dh: the whole low byte is 0 for off, 1 for on.
+#[tactic(auto, unfolding(supply::specs::Rules::switched))]
 pub fn set_stepping(s: Supply, low: u8) -> Change
     ensures { result ≡ switched s low }
 {
