@@ -7,9 +7,9 @@ use mathlib.Core.List.{List, [], ◌∷◌, ◌++◌}
 use Prim.Native.Nat.{ℕ, ◌+◌, ◌*◌, ◌/◌, ◌%◌, ◌^◌, ◌≤◌, ◌<◌}
 use native.Mathlib.Omega.{arith}
 use lib.Bits.{bit_and}
-use lib.Dec.{T, eqb, ltb, leb, eqb→eq}
+use lib.Dec.{T, eqb, ltb, eqb→eq}
 use lib.ListN.{length, drop}
-use borrow.Author.Tests.{eq-eqb, eqb-true, lt-ltb, le-ltb, le-leb, lt-leb, ltb-true, ltb-false}
+use borrow.Author.Tests.{eq-eqb, eqb-true, lt-ltb, le-ltb, le-leb, lt-leb, ltb-false}
 use Rattle.base.specs.Pick.{pick}
 use Rattle.base.proofs.Cases.{split}
 use Rattle.base.proofs.Table.{all_below, below}
@@ -24,10 +24,10 @@ use Rattle.wording.specs.declared.Refusal.TheVariants.{TooWide, NoRoom, NotOne}
 use Rattle.wording.specs.declared.Wrote.TheVariants as wrote
 use Rattle.wording.specs.declared.Meant.{Meant}
 use Rattle.wording.specs.declared.Meant.TheVariants.{Is, Refused}
-use Rattle.wording.specs.Written.{settings, all_fit, fits, single_word, head_word, data_word, end_word, single, block, words_of, put_answer, put_into, wrote_of, written_of}
+use Rattle.wording.specs.Written.{settings, all_fit, fits, single_word, head_word, data_word, end_word, single, block, words_of, wrote_of, written_of}
 use Rattle.wording.specs.Meaning.{single_meant, block_meant, is_block, four_meant, read_of, cleaned}
 use Rattle.wording.specs.Laws.{word, OneOf, OneSingle, alone, OneBlock, whole, Wide, WordingLaws}
-use Rattle.wording.proofs.Sent.{both, two_bits, fits_one, fits_two, check_fits}
+use Rattle.wording.proofs.Sent.{two_bits, fits_one, fits_two}
 
 -- reading one single and one block, whatever they hold
 read_single : (code low : ℕ) → low < 256 → read_of (single code low) ≡ single_meant code low

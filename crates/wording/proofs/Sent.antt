@@ -1,15 +1,14 @@
 -- What is written, sent to a rig with nothing pending, reaches the judgement of its settings (specs/Laws `Sends`).
 -- Assumes nothing.
 use mathlib.Core.Path.{◌≡◌, refl, sym, ap, ◌∙◌}
-use mathlib.Core.Bool.{Bool, true, false, not, ◌&&◌, true≢false}
-use mathlib.Core.List.{List, [], ◌∷◌, ◌++◌}
-use Prim.Native.Nat.{ℕ, zero, suc, ◌+◌, ◌*◌, ◌-◌, ◌/◌, ◌%◌, ◌^◌, ◌≤◌, ◌<◌}
+use mathlib.Core.Bool.{Bool, true, false, ◌&&◌, true≢false}
+use mathlib.Core.List.{[], ◌∷◌}
+use Prim.Native.Nat.{ℕ, zero, suc, ◌+◌, ◌*◌, ◌/◌, ◌%◌, ◌<◌}
 use native.Mathlib.Omega.{arith}
 use lib.Dec.{eqb, ltb}
 use borrow.Author.Tests.{eq-eqb, ltb-true}
 use Rattle.base.specs.Pick.{pick}
 use Rattle.crc.specs.Crc.{crc_from, crc_of}
-use Rattle.crc.specs.Judged.{judge_of}
 use Rattle.crc.proofs.Laws.{laws as crc-laws}
 use Rattle.supply.specs.Rules.{relay_of, targeted, limited, switched}
 use Rattle.supply.specs.declared.Change.{Change}
@@ -21,19 +20,16 @@ use Rattle.judge.specs.Commands.{carried, mode_cmd, single_of, counted_of, block
 use Rattle.judge.specs.Table.{target_code, limit_code, stepping_code}
 use Rattle.judge.proofs.Table.{laws as table}
 use Rattle.rig.specs.declared.Rig.{Rig}
-use Rattle.rig.specs.declared.Kind.{Kind}
 use Rattle.rig.specs.declared.Kind.TheVariants.{Single, Head, Data, End}
 use Rattle.rig.specs.declared.Answer.TheVariants.{Waiting}
-use Rattle.rig.specs.declared.Reply.{Reply}
 use Rattle.rig.specs.declared.Reply.TheVariants.{Plain}
 use Rattle.rig.specs.declared.Taken.{Taken}
 use Rattle.rig.specs.Records.{with_pending}
 use Rattle.rig.specs.Words.{high_of, low_of, kind_of, code_of, new_block, one_more, settled_of, head_of, fresh_of, verdict_of, closed_of, pending_of, take_of}
-use Rattle.wording.specs.declared.Command.{Command}
 use Rattle.wording.specs.declared.Command.TheVariants.{Relay, Iel, HeadMask, Target, Limit, Mode, Stepping, Multiplexers, DirectionWindow, EnergyWindow}
-use Rattle.wording.specs.Written.{single_word, head_word, data_word, end_word, all_fit, settings, fits, block, words_of}
+use Rattle.wording.specs.Written.{single_word, head_word, data_word, end_word, block}
 use Rattle.wording.specs.Judged.{judged_of}
-use Rattle.wording.specs.Laws.{replies_to, rig_after, closed_with, reached, Sends}
+use Rattle.wording.specs.Laws.{replies_to, rig_after, closed_with, Sends}
 
 -- both tests of two
 pub both : (a b : Bool) → (a && b) ≡ true → (a ≡ true) × (b ≡ true)

@@ -1,6 +1,6 @@
 -- Words as 01 and the class have them, one for each command at least, as literals: names, codes and settings cannot trade places unseen.
 -- Assumes nothing.
-use Rattle.std.specs.Prelude.{◌≡◌, refl, List, [], ◌∷◌, ℕ}
+use Rattle.std.specs.Prelude.{◌≡◌, refl, [], ◌∷◌}
 use Rattle.crc.specs.Crc.{shift, crc_from, crc_of}
 use Rattle.judge.specs.declared.Which.TheVariants.{Stop, Start, Deflection}
 use Rattle.wording.specs.declared.Command.TheVariants.{Relay, Iel, HeadMask, Target, Limit, Mode, Stepping, Multiplexers, DirectionWindow, EnergyWindow}
