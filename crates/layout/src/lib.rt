@@ -39,6 +39,7 @@ fn second_at(kind: Kind) -> usize
 }
 
 // Whether the three bytes at a place are x, y and z.
+#[tactic(auto, unfolding(block::specs::Layout::marker))]
 fn is_marker(b: &[u8], at: usize, x: u8, y: u8, z: u8) -> bool
     requires { at + 3 ≤ length b.now }
     ensures { result ≡ marker b.now at x y z }
@@ -67,6 +68,7 @@ fn sort_of(kind: Kind) -> Sort
 }
 
 // What follows a kind's marker. A memory dump has only the first marker, so neither descriptor 2 nor the inner ones are looked at there.
+#[tactic(auto, unfolding(block::specs::Steps::as_kind))]
 fn seen_as(b: &[u8], kind: Kind) -> Seen
     ensures { layout_by result ≡ as_kind b.now kind }
 {
@@ -84,6 +86,7 @@ fn seen_as(b: &[u8], kind: Kind) -> Seen
 }
 
 // What a block is, or the first of 20 (under 3 bytes), 19, 20, 21 that it is refused with.
+#[tactic(auto, using(block::proofs::Laws::unmarked, crate::proofs::Laws::begun), unfolding(block::specs::Layout::layout_of, block::specs::Layout::marker))]
 fn seen_in(b: &[u8]) -> Seen
     ensures { layout_by result ≡ layout_of b.now }
 {
