@@ -3,7 +3,7 @@
 -- Assumes nothing.
 use mathlib.Core.Path.{◌≡◌, refl, ap, sym, ◌∙◌}
 use mathlib.Core.Bool.{Bool, true, false, not, ◌||◌, true≢false}
-use Prim.Native.Nat.{ℕ, ◌%◌, ◌<◌, ◌≤◌}
+use Prim.Native.Nat.{ℕ, ◌/◌, ◌%◌, ◌<◌, ◌≤◌}
 use native.Mathlib.Omega.{arith}
 use lib.Dec.{eqb, ltb}
 use borrow.Author.Tests.{eqb-true, eqb-false}
@@ -26,7 +26,7 @@ use Rattle.judge.specs.declared.Core.{Core}
 use Rattle.judge.specs.declared.Verdict.{Verdict}
 use Rattle.judge.specs.declared.Verdict.TheVariants.{Apply, Deny}
 use Rattle.judge.specs.Commands.{carried, relay_to, ordered, mode_cmd, single_of, mux_word, window_of, counted_of, block_of}
-use Rattle.judge.specs.Records.{supply_at, with_supply, with_settings, with_mux, with_direction, with_energy}
+use Rattle.judge.specs.Records.{supply_at, with_supply, with_settings, with_parallel, with_mask, with_iel, with_sensor, with_mux, with_direction, with_energy}
 use Rattle.judge.specs.declared.Sensor.{Sensor}
 use Rattle.rig.specs.declared.Pending.{Pending}
 use Rattle.rig.specs.Words.{code_of, verdict_of}
@@ -163,7 +163,8 @@ mode_keeps : (c : Core) (code low : ℕ) → KeepsSingle c code (mode_cmd c low)
 unfolding mode_cmd
 mode_keeps c code low =
     let K = KeepsSingle c code in
-    by_test K (eqb low 0) (λ e. (λ h. h, (refl, λ x n. settings_left c _ x))) (λ e. by_test K (eqb low 1) (λ f. (λ h. h, (refl, λ x n. settings_left c _ x))) (λ f. tt))
+    by_test K (eqb low 0) (λ e. (λ h. h, (refl, λ x n. settings_left c (with_parallel c.settings false) x))) (λ e.
+    by_test K (eqb low 1) (λ f. (λ h. h, (refl, λ x n. settings_left c (with_parallel c.settings true) x))) (λ f. tt))
 
 mask_fits : (c : Core) (low : ℕ) → CoreFits c → Fit c.stop c.start c.deflection (low % 8) c.settings.sensor
 mask_fits c low h = record { on = h.on; stop = h.stop; start = h.start; deflection = h.deflection; mask = omega arith; sensor = h.sensor }
@@ -173,13 +174,13 @@ unfolding single_of
 single_keeps c code low =
     let K = KeepsSingle c code in
     by_test K (eqb code 0x08) (λ e. relay_keeps c code e (relay_of low)) (λ e.
-    by_test K (eqb code 0x0C) (λ e. (λ h. h, (refl, λ x n. settings_left c _ x))) (λ e.
+    by_test K (eqb code 0x0C) (λ e. (λ h. h, (refl, λ x n. settings_left c (with_iel c.settings (record { clock = eqb (low % 2) 1; enable = eqb (low / 2 % 2) 1 })) x))) (λ e.
     by_test K (eqb code 0x20) (λ e. supply_keeps Start c code low targeted targets (rw (eqb-true code 0x20 e) refl)) (λ e.
     by_test K (eqb code 0x21) (λ e. supply_keeps Start c code low limited limits (rw (eqb-true code 0x21 e) refl)) (λ e.
     by_test K (eqb code 0x22) (λ e. supply_keeps Deflection c code low switched switches (rw (eqb-true code 0x22 e) refl)) (λ e.
     by_test K (eqb code 0x23) (λ e. supply_keeps Deflection c code low targeted targets (rw (eqb-true code 0x23 e) refl)) (λ e.
     by_test K (eqb code 0x24) (λ e. supply_keeps Deflection c code low limited limits (rw (eqb-true code 0x24 e) refl)) (λ e.
-    by_test K (eqb code 0x26) (λ e. (λ h. mask_fits c low h, (refl, λ x n. settings_left c _ x))) (λ e.
+    by_test K (eqb code 0x26) (λ e. (λ h. mask_fits c low h, (refl, λ x n. settings_left c (with_mask c.settings (low % 8)) x))) (λ e.
     by_test K (eqb code 0x28) (λ e. supply_keeps Stop c code low targeted targets (rw (eqb-true code 0x28 e) refl)) (λ e.
     by_test K (eqb code 0x29) (λ e. supply_keeps Stop c code low limited limits (rw (eqb-true code 0x29 e) refl)) (λ e.
     by_test K (eqb code 0x2B) (λ e. mode_keeps c code low) (λ e.
@@ -239,7 +240,7 @@ counted_keeps q n c x y code e =
     (λ f. (
       λ h. let k = h.0 in
           record { on = k.on; stop = k.stop; start = k.start; deflection = k.deflection; mask = k.mask; sensor = sensed_fits q s x y h.1 k.sensor },
-      (rw (eqb-true code (order_code q) e) (λ p. sensed_pair q p s x y), settings_left c _),
+      (rw (eqb-true code (order_code q) e) (λ p. sensed_pair q p s x y), settings_left c (with_sensor c.settings (sensed q s x y))),
     ))
     (λ f. tt)
 
