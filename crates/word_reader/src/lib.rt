@@ -8,6 +8,7 @@ ghost use Rattle.wording.specs.Meaning.{single_meant, block_meant, is_block, fou
 use judge::Which;
 use wording::{Command, Meant, Refusal};
 
+#[tactic(auto, unfolding(wording::specs::Meaning::single_meant))]
 fn single_meant(code: u8, low: u8) -> Meant
     ensures { result ≡ single_meant code low }
 {
@@ -31,6 +32,7 @@ fn single_meant(code: u8, low: u8) -> Meant
     }
 }
 
+#[tactic(auto, unfolding(wording::specs::Meaning::block_meant))]
 fn block_meant(code: u8, first: u8, second: u8) -> Meant
     ensures { result ≡ block_meant code first second }
 {
@@ -66,6 +68,7 @@ fn same(head: u16, h: u16, a: u16, x: u16, b: u16, y: u16, end: u16, e: u16) -> 
 }
 
 // Whether four words are a block of two data words: head, data and end of one code, and the check that of the bytes as they came.
+#[tactic(auto, unfolding(wording::specs::Meaning::is_block))]
 fn is_block(head: u16, a: u16, b: u16, end: u16) -> bool
     ensures { result ≡ is_block head a b end }
 {
@@ -90,6 +93,7 @@ fn four(head: u16, a: u16, b: u16, end: u16) -> Meant
 }
 
 // What words mean.
+#[tactic(auto, using(crate::proofs::Counts::read_one, crate::proofs::Counts::read_four, crate::proofs::Counts::read_none))]
 pub fn read(words: &[u16]) -> Meant
     ensures { result ≡ read_of words.now }
 {
