@@ -114,6 +114,7 @@ fn put_block(code: u8, first: u8, second: u8, out: &mut [u16]) -> Wrote
 }
 
 // The words of a command at the front of a buffer; answers how many.
+#[tactic(auto, using(crate::proofs::Front::wrote_by, crate::proofs::Front::written_by), unfolding(wording::specs::Written::wrote_of, wording::specs::Written::written_of))]
 pub fn write(c: Command, out: &mut [u16]) -> Wrote
     ensures { (result ≡ wrote_of c (length out.old)) × (out.new ≡ written_of c out.old) }
 {
