@@ -39,7 +39,7 @@ with_edbs r x = record { core = r.core; register = r.register; faults = r.faults
 abbrev pub with_bias : Panel → ℕ → Panel
 with_bias p x = record { bias = x; ground = p.ground; free = p.free; flap1 = p.flap1; flap2 = p.flap2; flap3 = p.flap3 }
 
-abbrev pub with_ground : Panel → ℕ → Panel
+abbrev pub with_ground : Panel → (ground : ℕ) → Panel
 with_ground p x = record { bias = p.bias; ground = x; free = p.free; flap1 = p.flap1; flap2 = p.flap2; flap3 = p.flap3 }
 
 abbrev pub with_free : Panel → ℕ → Panel

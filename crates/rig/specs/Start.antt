@@ -1,10 +1,11 @@
 -- The start, to which a power cut returns (01, "Spins and power"; 02 (ii), the register; 02 (iv), three supplies).
 -- Assumes nothing.
-use Rattle.std.specs.Prelude.{false}
+use Rattle.std.specs.Prelude.{ℕ, Bool, false}
 use Rattle.base.specs.Counts.{spins}
 use Rattle.supply.specs.declared.Supply.{Supply}
 use Rattle.judge.specs.declared.Core.{Core}
 use Rattle.judge.specs.declared.Sensor.{Sensor}
+use Rattle.rig.specs.declared.Panel.{Panel}
 use Rattle.rig.specs.declared.Rig.{Rig}
 use Rattle.rig.specs.Words.{nothing_pending}
 
@@ -36,6 +37,10 @@ start_core =
       };
     }
 
+-- a panel, by its two readings, its free time and its three flaps
+abbrev pub panel_of : (bias : ℕ) (ground : ℕ) (free : ℕ) (flap1 flap2 flap3 : Bool) → Panel
+panel_of bias ground free flap1 flap2 flap3 = record { bias = bias; ground = ground; free = free; flap1 = flap1; flap2 = flap2; flap3 = flap3 }
+
 abbrev pub start_rig : Rig
 start_rig =
     record {
@@ -44,7 +49,7 @@ start_rig =
       faults = record { error = 0; last = 0xFF; count = 0 };
       pending = nothing_pending;
       check = 0;
-      panel = record { bias = 0; ground = 0; free = 0; flap1 = false; flap2 = false; flap3 = false };
+      panel = panel_of 0 0 0 false false false;
       sending = record { next = 0; latch = 0 };
       edbs = spins 0;
     }
