@@ -38,8 +38,8 @@ start_core =
     }
 
 -- a panel, by its two readings, its free time and its three flaps
-abbrev pub panel_of : (bias : ℕ) (ground : ℕ) (free : ℕ) (flap1 flap2 flap3 : Bool) → Panel
-panel_of bias ground free flap1 flap2 flap3 = record { bias = bias; ground = ground; free = free; flap1 = flap1; flap2 = flap2; flap3 = flap3 }
+abbrev pub new_panel : (bias : ℕ) (ground : ℕ) (free : ℕ) (flap1 flap2 flap3 : Bool) → Panel
+new_panel bias ground free flap1 flap2 flap3 = record { bias = bias; ground = ground; free = free; flap1 = flap1; flap2 = flap2; flap3 = flap3 }
 
 abbrev pub start_rig : Rig
 start_rig =
@@ -49,7 +49,7 @@ start_rig =
       faults = record { error = 0; last = 0xFF; count = 0 };
       pending = nothing_pending;
       check = 0;
-      panel = panel_of 0 0 0 false false false;
+      panel = new_panel 0 0 0 false false false;
       sending = record { next = 0; latch = 0 };
       edbs = spins 0;
     }
