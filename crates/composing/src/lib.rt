@@ -14,6 +14,7 @@ fn low(n: u32) -> u8
     (n % 256) as u8
 }
 
+#[tactic(auto, unfolding(frame::specs::Write::quarter_of))]
 fn byte_37(held: Held, index: u8) -> u8
     ensures { result ≡ quarter_of held (index % 4) }
 {
@@ -29,6 +30,7 @@ fn byte_37(held: Held, index: u8) -> u8
     }
 }
 
+#[tactic(auto, unfolding(frame::specs::Write::ground_at))]
 fn byte_38(held: Held, index: u8) -> u8
     ensures { result ≡ ground_at held (index % 8) }
 {
@@ -39,6 +41,7 @@ fn byte_38(held: Held, index: u8) -> u8
     }
 }
 
+#[tactic(auto, unfolding(frame::specs::Write::mux_of))]
 fn byte_39(held: Held, index: u8, latch: u32) -> u8
     ensures { result ≡ mux_of held latch (index % 32) }
 {
@@ -62,6 +65,7 @@ fn byte_39(held: Held, index: u8, latch: u32) -> u8
 }
 
 // The 40 bytes. Bits that 01 does not name stay 0.
+#[tactic(auto, unfolding(frame::specs::Write::frame_of))]
 pub fn frame_bytes(held: Held, index: u8, latch: u32) -> [u8; 40]
     ensures { result ≡ frame_of held index latch }
 {
