@@ -25,6 +25,7 @@ fn raise(r: supply::Refusal) -> Refusal
 }
 
 // What the supply answered, carried to the core.
+#[tactic(auto, unfolding(judge::specs::Commands::carried))]
 fn carry(core: Core, which: Which, ch: Change) -> Verdict
     ensures { result ≡ carried core which ch }
 {
@@ -88,6 +89,7 @@ fn set_mask(core: Core, low: u8) -> Verdict
     Verdict::Apply(with_settings(core, s))
 }
 
+#[tactic(auto, unfolding(judge::specs::Commands::mode_cmd))]
 fn set_mode(core: Core, low: u8) -> Verdict
     ensures { result ≡ mode_cmd core low }
 {
@@ -125,6 +127,7 @@ fn set_stepping(core: Core, which: Which, low: u8) -> Verdict
 }
 
 // A single: the table's rows that are no blocks.
+#[tactic(auto, unfolding(judge::specs::Commands::single_of))]
 pub fn single(core: Core, code: u8, low: u8) -> Verdict
     ensures { result ≡ single_of core code low }
 {
