@@ -54,6 +54,7 @@ fn with_energy(sensor: Sensor, w: Window) -> Sensor
 }
 
 // Every listed block has two data words.
+#[tactic(auto, unfolding(judge::specs::Commands::counted_of))]
 fn counted(n: u8, core: Core, sensor: Sensor) -> Verdict
     ensures { result ≡ counted_of n core sensor }
 {
@@ -68,6 +69,7 @@ fn counted(n: u8, core: Core, sensor: Sensor) -> Verdict
 }
 
 // A closed block with a right check: the table's last three rows. first and second are its first two bytes.
+#[tactic(auto, unfolding(judge::specs::Commands::block_of))]
 pub fn block(core: Core, code: u8, n: u8, first: u8, second: u8) -> Verdict
     ensures { result ≡ block_of core code n first second }
 {

@@ -32,6 +32,7 @@ fn end_way(p: Pending, high: u8) -> Way
 }
 
 // A word with a block pending.
+#[tactic(auto, unfolding(rig::specs::Ways::pending_way))]
 fn pending_way(p: Pending, kind: Kind, high: u8) -> Way
     ensures { result ≡ pending_way p kind high }
 {
@@ -44,6 +45,7 @@ fn pending_way(p: Pending, kind: Kind, high: u8) -> Way
 }
 
 // What a word does.
+#[tactic(auto, unfolding(rig::specs::Ways::way_of))]
 pub fn way_of(p: Pending, kind: Kind, high: u8) -> Way
     ensures { result ≡ way_of p kind high }
 {
