@@ -13,6 +13,7 @@ pub struct Span {
 }
 
 // The first place from `at` on that has no space.
+#[tactic(auto, using(crate::proofs::Steps::goes_on_lem, crate::proofs::Steps::stops, crate::proofs::Steps::ends))]
 fn skip(line: &[u8], at: usize) -> usize
     ensures { result ≡ at + spaces (drop at line.now) }
 {
@@ -27,6 +28,7 @@ fn skip(line: &[u8], at: usize) -> usize
 }
 
 // The first place from `at` on that has a space, or the line's end.
+#[tactic(auto, using(crate::proofs::Steps::goes_on_lem, crate::proofs::Steps::stops, crate::proofs::Steps::ends))]
 fn reach(line: &[u8], at: usize) -> usize
     ensures { result ≡ at + letters (drop at line.now) }
 {
@@ -41,6 +43,7 @@ fn reach(line: &[u8], at: usize) -> usize
 }
 
 // The first word from a place on.
+#[tactic(auto, unfolding(crate::specs::Words::span_at))]
 fn word_from(line: &[u8], at: usize) -> Span
     ensures { result ≡ span_at line.now at }
 {
