@@ -6,15 +6,14 @@ ghost use Rattle.std.specs.Prelude.{◌≡◌, length};
 ghost use Rattle.samples.specs.Made.{positions, made_of};
 
 use block::{Kind, Refusal};
+use std::io;
 
 // Each byte its own position (its low eight bits).
 fn fill(b: &mut [u8])
     ensures { b.new ≡ positions (length b.old) b.old }
 {
-    let mut i: usize = 0;
-    while i < b.len() {
+    for i in 0..b.len() {
         b[i] = (i % 256) as u8;
-        i += 1;
     }
 }
 
@@ -41,13 +40,13 @@ pub fn made(kind: Kind, d1: u8, d2: u8) -> [u8; 2304]
     b
 }
 
-pub fn say_kind(kind: Kind) {
+pub fn say_kind(rt: &impl Print, kind: Kind) -> io::Result<()> {
     match kind {
-        Kind::Nm => printing::text(b"NM"),
-        Kind::Bm1 => printing::text(b"BM1"),
+        Kind::Nm => printing::text(rt, b"NM"),
+        Kind::Bm1 => printing::text(rt, b"BM1"),
     }
 }
 
-pub fn say_refused(why: Refusal) {
-    printing::number_after(b" refused ", block::number(why) as u64);
+pub fn say_refused(rt: &impl Print, why: Refusal) -> io::Result<()> {
+    printing::number_after(rt, b" refused ", u64::from(block::number(why)))
 }
