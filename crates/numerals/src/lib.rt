@@ -32,6 +32,7 @@ struct Made {
 }
 
 // The last digit of a number.
+#[tactic(auto, unfolding(text::specs::Digits::digit))]
 fn figure(n: u32) -> u8
     ensures { result ≡ digit (n % 10) }
 {
@@ -64,6 +65,7 @@ pub fn put_decimal(n: u32, page: &mut [u8], at: usize) -> usize
 }
 
 // The digit that a letter stands for; 16 where it stands for none.
+#[tactic(auto, unfolding(crate::specs::Letters::digit_of))]
 fn value(b: u8) -> u64
     ensures { (result ≡ digit_of b) × (result ≤ 16) }
 {
@@ -87,6 +89,7 @@ fn more(n: u64, base: u64, d: u64) -> u64
     4294967296
 }
 
+#[tactic(auto, using(crate::proofs::Reading::capped, crate::proofs::Reading::one))]
 fn number_in(base: u64, text: &[u8]) -> Number
     requires { (1 ≤ base) × (base ≤ 16) }
     ensures { result ≡ number_in base text.now }
