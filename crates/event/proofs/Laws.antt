@@ -69,24 +69,24 @@ direct_as b n l e =
     ap (direct_in n) (sym e) ∙ through (direct_in n) Bad (block_tests b) (Is (kind_of b) (first b) (second b (kind_of b)))
 
 module _ (b : List ℕ) (n from most size : ℕ) where
-  abbrev pub ifftIn : Layout → Entry
-  ifftIn (Bad r) = Refused r
-  ifftIn (Is k d1 d2) =
+  abbrev pub ifft_in : Layout → Entry
+  ifft_in (Bad r) = Refused r
+  ifft_in (Is k d1 d2) =
       unless Refused ((wrong k d1 (get_or b 5 0) (get_or b 6 0) from most, NotIfft) ∷ (leb (get_or b 6 0) n, Beyond) ∷ []) (At (0x020 + size * n))
 
-  pub ifft_as : (l : Layout) → layout_of b ≡ l → ifftIn l ≡ ifft_at b n from most size
+  pub ifft_as : (l : Layout) → layout_of b ≡ l → ifft_in l ≡ ifft_at b n from most size
   unfolding ifft_at layout_of
-  ifft_as l e = ap ifftIn (sym e) ∙ through ifftIn Bad (block_tests b) (Is (kind_of b) (first b) (second b (kind_of b)))
+  ifft_as l e = ap ifft_in (sym e) ∙ through ifft_in Bad (block_tests b) (Is (kind_of b) (first b) (second b (kind_of b)))
 
-  pub ifft_wrong : (k : Kind) (d1 d2 : ℕ) → wrong k d1 (get_or b 5 0) (get_or b 6 0) from most ≡ true → Refused NotIfft ≡ ifftIn (Is k d1 d2)
+  pub ifft_wrong : (k : Kind) (d1 d2 : ℕ) → wrong k d1 (get_or b 5 0) (get_or b 6 0) from most ≡ true → Refused NotIfft ≡ ifft_in (Is k d1 d2)
   ifft_wrong k d1 d2 w = simp w
 
   pub ifft_beyond : (k : Kind) (d1 d2 : ℕ) → wrong k d1 (get_or b 5 0) (get_or b 6 0) from most ≡ false → leb (get_or b 6 0) n ≡ true
-      → Refused Beyond ≡ ifftIn (Is k d1 d2)
+      → Refused Beyond ≡ ifft_in (Is k d1 d2)
   ifft_beyond k d1 d2 w l = simp (w, l)
 
   pub ifft_found : (k : Kind) (d1 d2 : ℕ) → wrong k d1 (get_or b 5 0) (get_or b 6 0) from most ≡ false → leb (get_or b 6 0) n ≡ false
-      → At (0x020 + size * n) ≡ ifftIn (Is k d1 d2)
+      → At (0x020 + size * n) ≡ ifft_in (Is k d1 d2)
   ifft_found k d1 d2 w l = simp (w, l)
 
 -- bytes 5 and 6 stand in every kind
