@@ -1,2 +1,3 @@
 -- Single outcome.
 pub mod Single
+mod Rest

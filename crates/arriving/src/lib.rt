@@ -8,6 +8,7 @@ ghost use Rattle.frame.specs.Read.{all_are, arrived_of};
 use frame::{Arrived, Refusal};
 
 // Are the bytes all b?
+#[tactic(auto, using(crate::proofs::Rest::all_stop, crate::proofs::Rest::all_next, crate::proofs::Rest::all_end))]
 fn filled(frame: &[u8], b: u8) -> bool
     ensures { result ≡ all_are b frame.now }
 {
@@ -22,6 +23,7 @@ fn filled(frame: &[u8], b: u8) -> bool
 }
 
 // What arrived: 40 equal bytes C0h or FFh are fill, though the low five bits of C0h would make frame 0.
+#[tactic(auto, unfolding(frame::specs::Read::arrived_of))]
 pub fn arrival(frame: &[u8]) -> Arrived
     ensures { result ≡ arrived_of frame.now }
 {
