@@ -27,6 +27,7 @@ fn is_turn(spin: u8, first: u8) -> bool
 }
 
 // 24: not NM, no IFFT, a memory dump, another spin counter, or a count that the block can't hold.
+#[tactic(auto, unfolding(event::specs::Ifft::wrong))]
 fn is_wrong(kind: Kind, d1: u8, spin: u8, count: u8, first: u8, most: u8) -> bool
     requires { first ≤ 6 }
     ensures { result ≡ wrong kind d1 spin count first most }
