@@ -8,13 +8,13 @@ use native.Mathlib.Nat.{not-suc-le-zero}
 use native.Mathlib.Decide.{ℕ_discrete}
 use native.Mathlib.Omega.{arith}
 use lib.Dec.{T, eqb, ltb}
-use lib.ListN.{length, get_or, take, replicate, length-append, length-take}
+use lib.ListN.{length, get_or, replicate, length-append, length-take}
 use lib.Seq.{get_or-append-add}
 use borrow.Author.Tests.{ltb-true, ltb-false, ne_eqb}
 use Rattle.base.proofs.Cases.{split}
 use Rattle.names.specs.Names.{name_in}
 use Rattle.names.proofs.Texts.{text, named}
-use Rattle.splitting.specs.Words.{space, words_of, spoken, Spellable}
+use Rattle.splitting.specs.Words.{space, words_of, spoken}
 use Rattle.splitting.proofs.Spoken.{padded_back, can_spell, spellable}
 use Rattle.menu_names.specs.Names.{rows, names, name_words, name_of, called, seek, find_of, Found}
 

@@ -23,6 +23,7 @@ pub fn name_of(row: usize) -> [u8; NAME]
 }
 
 // How many words the name of a row has.
+#[tactic(auto, using(crate::proofs::Rows::words_at, crate::proofs::Rows::at_most_two))]
 pub fn words_in(row: usize) -> usize
     ensures { (result ≡ length (name_words row)) × (result ≤ 2) }
 {
@@ -48,6 +49,7 @@ fn is_called(name: &[u8], first: &[u8], second: &[u8]) -> bool
 }
 
 // The row that two words name, the second of which counts where the name has two; ROWS where there is none.
+#[tactic(auto, using(crate::proofs::Rows::words_in, crate::proofs::Rows::here, crate::proofs::Rows::on, crate::proofs::Rows::end), unfolding(crate::specs::Names::find_of))]
 pub fn find(first: &[u8], second: &[u8]) -> usize
     ensures { result ≡ find_of first.now second.now }
 {
