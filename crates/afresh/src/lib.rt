@@ -9,6 +9,7 @@ use judge::{Refusal, Verdict};
 use rig::{Answer, Faults, Kind, Reply, Rig, Taken};
 
 // The bookkeeping of every refusal. The count goes from 255 to 0.
+#[tactic(auto, unfolding(rig::specs::Words::refused_of))]
 pub fn refuse(rig: Rig, high: u8, number: u8) -> Rig
     ensures { result ≡ refused_of rig high number }
 {
@@ -24,6 +25,7 @@ pub fn refuse(rig: Rig, high: u8, number: u8) -> Rig
 }
 
 // A verdict carried out; high is what a refusal leaves as the last invalid code.
+#[tactic(auto, unfolding(rig::specs::Words::settled_of))]
 pub fn settle(rig: Rig, high: u8, v: Verdict) -> Taken
     ensures { result ≡ settled_of rig high v }
 {
@@ -47,6 +49,7 @@ pub fn settle(rig: Rig, high: u8, v: Verdict) -> Taken
 }
 
 // A head with nothing pending: it waits, if its block may be so long.
+#[tactic(auto, unfolding(rig::specs::Words::head_of))]
 fn begin(rig: Rig, high: u8, n: u8) -> Taken
     ensures { result ≡ head_of rig high n }
 {
@@ -67,6 +70,7 @@ fn begin(rig: Rig, high: u8, n: u8) -> Taken
 }
 
 // A word with nothing pending.
+#[tactic(auto, unfolding(rig::specs::Words::fresh_of))]
 pub fn fresh(rig: Rig, kind: Kind, high: u8, low: u8) -> Taken
     ensures { result ≡ fresh_of rig kind high low }
 {
