@@ -61,6 +61,7 @@ fn turned(panel: Panel, setting: PanelSetting) -> Panel
 }
 
 // A setting by the instructor.
+#[tactic(auto, unfolding(crate::specs::Power::set_of))]
 pub fn set(rig: Rig, setting: PanelSetting) -> Rig
     ensures { result ≡ set_of rig setting }
 {
