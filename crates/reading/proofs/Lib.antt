@@ -1,2 +1,3 @@
 -- Single outcome of the reader.
 pub mod Single
+pub mod Spots

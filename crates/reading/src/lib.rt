@@ -87,6 +87,7 @@ fn field(frame: &[u8], p: Spot) -> u32
 }
 
 // What 40 bytes tell of an item that one frame brings whole.
+#[tactic(auto, using(crate::proofs::Spots::read_spread, crate::proofs::Spots::read_lacks, crate::proofs::Spots::read_brings, crate::proofs::Spots::read_short))]
 pub fn read(frame: &[u8], item: Item) -> Reading
     ensures { result ≡ read_of frame.now (row_of item) }
 {
