@@ -5,7 +5,9 @@
 mod direct; // direct.rt: direct events by number, and every direction
 mod entries; // entries.rt: the IFFT block
 
-fn main() {
-    direct::run();
-    entries::run();
+use std::io;
+
+fn main(rt: HostRuntime) -> io::Result<()> {
+    direct::run(&rt)?;
+    entries::run(&rt)
 }
