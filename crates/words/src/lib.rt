@@ -10,6 +10,7 @@ use crc::Judged;
 use judge::{Core, Refusal, Verdict};
 use rig::{Answer, DROPPED, Kind, Pending, Reply, Rig, Taken, Way};
 
+#[tactic(auto, unfolding(rig::specs::Words::kind_of))]
 fn kind_of(high: u8) -> Kind
     ensures { result ≡ kind_of high }
 {
@@ -46,6 +47,7 @@ fn store(p: Pending, v: u8) -> Pending
 }
 
 // The verdict on a block that an end word closes, whose check the judgement is about.
+#[tactic(auto, unfolding(rig::specs::Words::verdict_of))]
 fn verdict(core: Core, p: Pending, judged: Judged) -> Verdict
     ensures { result ≡ verdict_of judged core p }
 {
@@ -56,6 +58,7 @@ fn verdict(core: Core, p: Pending, judged: Judged) -> Verdict
 }
 
 // The end word after exactly n data words. The last check is set, right or wrong.
+#[tactic(auto, unfolding(rig::specs::Words::closed_of))]
 fn close(rig: Rig, low: u8) -> Taken
     ensures { result ≡ closed_of rig low }
 {
@@ -70,6 +73,7 @@ fn close(rig: Rig, low: u8) -> Taken
 }
 
 // The rig with no block pending: one that waited is dropped, and 03h booked under the head's byte.
+#[tactic(auto, unfolding(rig::specs::Ways::unblocked_of))]
 fn unblocked(rig: Rig) -> Rig
     ensures { result ≡ unblocked_of rig }
 {
