@@ -145,9 +145,9 @@ given {held} {got} {line} {piece} {at} {pieces} h (calls g) =
     let s = stepped (drop at piece) (joined pieces) held got line at h in
     let o = s.onward in
     let z : at + ((step_of c).at - at) ≡ (step_of c).at = omega arith in
-    ap (λ (r : List Line). told (step_of c).said c.line ++ r) (given s.holds g)
+    ap (λ (r : List Line). told (step_of c).said c.line ++ r) (given {held = s.now_held} s.holds g)
     ∙ sym (s.lines ∙ rw (drop-drop ((step_of c).at - at) at piece, z))
-given {held} {piece = piece} {at = at} h (turns k g) = rw (drop_of_length-le piece {i = at} k) (given h g)
+given {held} {piece = piece} {at = at} h (turns k g) = rw (drop_of_length-le piece {i = at} k) (given {held = held} h g)
 given {held} {piece = piece} {at = at} h (ends k) = rw (drop_of_length-le piece {i = at} k) (said_last h)
 
 pub in_pieces : InPieces
