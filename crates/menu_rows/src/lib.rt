@@ -31,6 +31,7 @@ pub fn settings(row: usize) -> usize
 }
 
 // The command of a row, with its settings.
+#[tactic(auto, unfolding(crate::specs::Rows::made))]
 pub fn command(row: usize, a: u8, b: u8) -> Command
     ensures { result ≡ made row a b }
 {
