@@ -46,6 +46,7 @@ fn start_text(check: u8, byte: u8) -> [u8; 20]
 }
 
 // How the line of a step begins: a 1 that falls out has the polynomial put in.
+#[tactic(auto, unfolding(crate::specs::Lines::step_text, text::specs::Digits::digit))]
 fn step_text(k: u8, x: u8) -> [u8; 20]
     ensures { result ≡ step_text k x }
 {
