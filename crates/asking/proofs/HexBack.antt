@@ -1,24 +1,18 @@
 -- The words that are written for a command, typed in hex, are read back as that command (specs/Asks `HexBack`).
 -- Assumes nothing.
-use mathlib.Core.Path.{◌≡◌, refl, sym, ap, ◌∙◌}
-use mathlib.Core.Bool.{true, false}
+use mathlib.Core.Path.{◌≡◌, refl, ap, ◌∙◌}
+use mathlib.Core.Bool.{true}
 use mathlib.Core.List.{List, [], ◌∷◌, map}
-use Prim.Native.Nat.{ℕ, ◌+◌, ◌*◌, ◌/◌, ◌%◌, ◌<◌}
+use Prim.Native.Nat.{ℕ, ◌/◌, ◌%◌, ◌<◌}
 use native.Mathlib.Omega.{arith}
-use borrow.Author.Tests.{lt-ltb, le-ltb}
 use lib.Dec.{ltb}
 use lib.ListN.{length, get_or}
 use Rattle.base.proofs.Cases.{split}
-use Rattle.crc.specs.Crc.{crc_of}
 use Rattle.text.specs.Digits.{digit, hex_word}
-use Rattle.numerals.specs.Hex.{word_of}
-use Rattle.numerals.specs.declared.Word.TheVariants.{Value}
 use Rattle.numerals.proofs.Laws.{word_back}
-use Rattle.menu_names.specs.Names.{rows, find_of}
 use Rattle.menu_names.proofs.Rows.{none_found}
 use Rattle.wording.specs.declared.Command.{Command}
 use Rattle.wording.specs.declared.Command.TheVariants.{Relay, Iel, HeadMask, Target, Limit, Mode, Stepping, Multiplexers, DirectionWindow, EnergyWindow}
-use Rattle.wording.specs.declared.Meant.TheVariants.{Is}
 use Rattle.wording.specs.Written.{fits, words_of, block}
 use Rattle.wording.specs.Meaning.{read_of}
 use Rattle.wording.proofs.Sent.{codes, fits_one, fits_two, check_fits}

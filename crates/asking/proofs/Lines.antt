@@ -7,7 +7,7 @@ use Prim.Native.Nat.{ℕ, ◌+◌, ◌-◌}
 use native.Mathlib.Nat.{add-zero}
 use native.Mathlib.Omega.{arith}
 use borrow.Author.Tests.{eq-eqb, ne_eqb}
-use lib.Dec.{eqb, ltb}
+use lib.Dec.{ltb}
 use lib.ListN.{length, get_or, drop, length-drop}
 use lib.Seq.{get_or-drop}
 use Rattle.base.specs.Pick.{pick}
@@ -21,7 +21,7 @@ use Rattle.wording.specs.Meaning.{read_of}
 use Rattle.menu_names.specs.Names.{name_words}
 use Rattle.menu_rows.specs.Rows.{wanted}
 use Rattle.asking.specs.declared.Asked.TheVariants.{NotRead}
-use Rattle.asking.specs.Asks.{setting_in, ordered_of, order_of, value_of, is_word, values, all_words, four_hex, meant_of}
+use Rattle.asking.specs.Asks.{setting_in, ordered_of, order_of, value_of, is_word, all_words, four_hex, meant_of}
 
 -- words in hex
 pub one_word : (ws : List (List ℕ)) (a : ℕ) → length ws ≡ 1 → word_of (get_or ws 0 []) ≡ Value a → read_of (a ∷ []) ≡ meant_of ws

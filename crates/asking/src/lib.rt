@@ -84,6 +84,7 @@ fn behind(all: usize, named: usize) -> usize
 }
 
 // The command of a row, with the settings behind its name: as many as the row takes, or it is not read.
+#[tactic(auto, using(crate::proofs::Lines::as_many, crate::proofs::Lines::more_or_fewer))]
 fn order(line: &[u8], row: usize) -> Asked
     ensures { result ≡ order_of row (drop (length (name_words row)) (words_of line.now)) }
 {
@@ -114,6 +115,7 @@ fn four(a: u16, b: Word, c: Word, d: Word) -> Meant
 }
 
 // What a line of words in hex means, the first of which is read.
+#[tactic(auto, using(crate::proofs::Lines::one_word, crate::proofs::Lines::four_words, crate::proofs::Lines::other_words))]
 fn meant(line: &[u8], a: u16) -> Meant
     requires { word_of (get_or (words_of line.now) 0 []) ≡ Value a }
     ensures { result ≡ meant_of (words_of line.now) }
@@ -132,6 +134,7 @@ fn meant(line: &[u8], a: u16) -> Meant
 }
 
 // A line that begins with a word in hex; any other is not read.
+#[tactic(auto, unfolding(crate::specs::Asks::hex_of))]
 fn hex(line: &[u8]) -> Asked
     ensures { result ≡ hex_of (words_of line.now) }
 {
@@ -143,6 +146,7 @@ fn hex(line: &[u8]) -> Asked
 }
 
 // What a line asks for.
+#[tactic(auto, unfolding(crate::specs::Asks::ask_of))]
 pub fn read_line(line: &[u8]) -> Asked
     ensures { result ≡ ask_of (words_of line.now) }
 {
