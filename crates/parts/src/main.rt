@@ -6,8 +6,10 @@ mod table; // table.rt: where each part stands
 mod hidden; // hidden.rt: what each descriptor bit hides
 mod refused; // refused.rt: blocks that are none, and the order of the refusals
 
-fn main() {
-    table::run();
-    hidden::run();
-    refused::run();
+use std::io;
+
+fn main(rt: HostRuntime) -> io::Result<()> {
+    table::run(&rt)?;
+    hidden::run(&rt)?;
+    refused::run(&rt)
 }
