@@ -15,7 +15,7 @@ fn write(held: Held, index: u8, latch: u32, out: &mut [u8]) -> Wrote
         return Wrote::Refused(Refusal::NoRoom);
     }
     let f = composing::frame_bytes(held, index, latch);
-    bytes::copy(&f, out);
+    out[..40].copy_from_slice(&f);
     Wrote::Done
 }
 
