@@ -2,73 +2,68 @@
 // Keeps 02 (iii): a student can follow the check. What it writes is `shift_lines`'s, and the check `crc`'s; it only reads and writes.
 #![tactic(auto)]
 
-use libc::{STDERR_FILENO, STDIN_FILENO, STDOUT_FILENO};
+use std::io;
+use std::io::Read;
 
 // The most bytes that are read at once.
 const PIECE: usize = 4096;
 
-// How a turn of the reading loop ends: more may come, with the check so far; the input has ended; or a read or a write failed.
+// How a turn of the reading loop ends: more may come, with the check so far; or the input has ended.
 #[derive(Clone, Copy)]
 enum Next {
     More(u8),
     End,
-    Failed,
 }
 
-// Says on standard error what failed. There is then no last line.
-fn failed(why: &[u8]) -> Next {
-    io::write_all(STDERR_FILENO, why);
-    Next::Failed
+// Says on standard error what failed, and hands the error back. There is then no last line.
+fn failed(rt: &impl Eprint, why: &str, error: io::Error) -> io::Error {
+    let _ = rt.eprint(why);
+    error
+}
+
+// Writes a text on standard output.
+fn tell(rt: &(impl Print + Eprint), text: &[u8]) -> io::Result<()> {
+    match rt.write_all(text) {
+        Ok(()) => Ok(()),
+        Err(error) => Err(failed(rt, "shifts: cannot write\n", error)),
+    }
 }
 
 // Writes the lines of each byte of a piece.
-fn follow(before: u8, piece: &[u8]) -> Next {
+fn follow(rt: &(impl Print + Eprint), before: u8, piece: &[u8]) -> io::Result<u8> {
     let mut check = before;
-    let mut i: usize = 0;
-    while i < piece.len() {
-        let lines = shift_lines::byte_lines(check, piece[i]);
-        if !io::write_all(STDOUT_FILENO, &lines) {
-            return failed(b"shifts: cannot write\n");
-        }
-        check = crc::next(check, piece[i]);
-        i += 1;
+    for byte in piece {
+        let lines = shift_lines::byte_lines(check, *byte);
+        tell(rt, &lines)?;
+        check = crc::next(check, *byte);
     }
-    Next::More(check)
+    Ok(check)
 }
 
 // Reads once and follows what came.
-fn turn(check: u8) -> Next {
+fn turn(rt: &(impl Print + Eprint), input: &mut impl Read, check: u8) -> io::Result<Next> {
     let mut piece = [0u8; PIECE];
-    let got = libc::read(STDIN_FILENO, &mut piece);
-    if got < 0 {
-        return failed(b"shifts: cannot read\n");
+    match input.read(&mut piece) {
+        Ok(0) => Ok(Next::End),
+        Ok(n) => Ok(Next::More(follow(rt, check, &piece[..n])?)),
+        Err(error) => Err(failed(rt, "shifts: cannot read\n", error)),
     }
-    if got == 0 {
-        return Next::End;
-    }
-    let n = io::count(got, &piece);
-    follow(check, &piece[..n])
 }
 
 // Writes the last line.
-fn finish(check: u8) {
-    let line = shift_lines::check_line(check);
-    if !io::write_all(STDOUT_FILENO, &line) {
-        failed(b"shifts: cannot write\n");
-    }
+fn finish(rt: &(impl Print + Eprint), check: u8) -> io::Result<()> {
+    tell(rt, &shift_lines::check_line(check))
 }
 
-// Reads to the end of the input. A proved loop has to end, and nothing says that the input does: so it counts its turns down, from 2^64 - 1.
-fn main() {
+// Reads to the end of the input. A proved loop has to end, and nothing says that the input does: so it has 2^64 - 1 turns.
+fn main(rt: HostRuntime) -> io::Result<()> {
+    let mut input = rt.stdin();
     let mut check: u8 = 0;
-    let mut turns = u64::MAX;
-    while turns > 0 {
-        let next = turn(check);
-        match next {
+    for _ in 0..u64::MAX {
+        match turn(&rt, &mut input, check)? {
             Next::More(after) => check = after,
-            Next::End => return finish(check),
-            Next::Failed => return,
+            Next::End => return finish(&rt, check),
         }
-        turns -= 1;
     }
+    Ok(())
 }
