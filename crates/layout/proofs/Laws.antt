@@ -1,4 +1,4 @@
--- The code's flat record, once its sort is known, and a block by its first three bytes: what the proofs of the code stand on.
+-- The code's flat record, once its sort is known; and a block by its first three bytes, which the proof of `seen_in` stands on.
 -- Assumes nothing.
 use mathlib.Core.Path.{◌≡◌, refl, sym, ap}
 use Prim.Native.Nat.{ℕ, ◌≤◌}
