@@ -4,7 +4,8 @@
 
 ghost use Rattle.std.specs.Prelude.{◌≡◌, ◌+◌, ◌≤◌, length};
 ghost use Rattle.text.specs.Page.{Puts, fitting};
-ghost use Rattle.last_line.specs.LastLine.{LAST, codes_of, last_line};
+ghost use Rattle.last_line.specs.LastLine as line;
+ghost use Rattle.last_line.specs.LastLine.{codes_of, last_line};
 
 use rig::Faults;
 
@@ -26,7 +27,7 @@ fn codes_of(last: u8, error: u8) -> [u8; 17]
 }
 
 fn put_faults(faults: Faults, page: &mut [u8], at: usize) -> usize
-    requires { at + LAST ≤ length page.old }
+    requires { at + line.LAST ≤ length page.old }
     ensures { Puts at (last_line faults) page.old result page.new }
 {
     let count = text::put(b"invalid ", page, at);
@@ -36,8 +37,9 @@ fn put_faults(faults: Faults, page: &mut [u8], at: usize) -> usize
 }
 
 // The last line. Where the page has no room for the longest, nothing is put.
+#[tactic(auto, using(text::proofs::Puts::put_nil), unfolding(text::specs::Page::fitting))]
 pub fn put_last_line(faults: Faults, page: &mut [u8], at: usize) -> usize
-    ensures { Puts at (fitting LAST at page.old (last_line faults)) page.old result page.new }
+    ensures { Puts at (fitting line.LAST at page.old (last_line faults)) page.old result page.new }
 {
     if base::has_room(at, LAST, page.len()) {
         return put_faults(faults, page, at);
