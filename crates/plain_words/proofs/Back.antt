@@ -1,32 +1,29 @@
 -- There and back: a command that is told in plain words and typed again is the same command (specs/Plain `ThereAndBack`).
 -- Assumes nothing.
-use mathlib.Core.Path.{◌≡◌, refl, sym, ap, ◌∙◌, subst}
-use mathlib.Core.Bool.{Bool, true, false}
+use mathlib.Core.Path.{◌≡◌, refl, ap, ◌∙◌}
 use mathlib.Core.List.{List, [], ◌∷◌, ◌++◌}
-use Prim.Native.Nat.{ℕ, zero, suc, ◌+◌, ◌-◌, ◌/◌, ◌%◌, ◌≤◌, ◌<◌}
+use Prim.Native.Nat.{ℕ, zero, suc, ◌+◌, ◌/◌, ◌%◌, ◌<◌}
 use native.Mathlib.Omega.{arith}
 use borrow.Author.Tests.{lt-ltb}
 use lib.Dec.{T, eqb, ltb}
-use lib.ListN.{length, get_or, drop}
+use lib.ListN.{length, get_or}
 use lib.Seq.{drop_at}
-use Rattle.base.specs.Pick.{pick}
 use Rattle.base.proofs.Cases.{split}
 use Rattle.text.specs.Digits.{digit}
 use Rattle.numerals.specs.Decimal.{front, decimal, number_of}
 use Rattle.numerals.proofs.Laws.{decimal_back, some_digit}
 use Rattle.splitting.specs.Words.{space, words_of, spoken, NoSpace, Spellable}
 use Rattle.splitting.proofs.Spoken.{spoken_back, can_spell, spellable}
-use Rattle.wording.specs.declared.Command.{Command}
 use Rattle.wording.specs.declared.Command.TheVariants.{Relay, Iel, HeadMask, Target, Limit, Mode, Stepping, Multiplexers, DirectionWindow, EnergyWindow}
 use Rattle.wording.proofs.Sent.{two_bits, fits_one, fits_two}
 use Rattle.menu_names.specs.Names.{rows, name_words, find_of}
 use Rattle.menu_names.proofs.Rows.{each, found}
-use Rattle.menu_rows.specs.Rows.{wanted, made, first_row, entry_of}
+use Rattle.menu_rows.specs.Rows.{wanted, made, first_row}
 use Rattle.menu_rows.proofs.Laws.{in_menu, takes_one, supply_back}
 use Rattle.asking.specs.declared.Asked.TheVariants.{Order}
 use Rattle.asking.specs.declared.Setting.TheVariants.{Byte}
 use Rattle.asking.specs.Asks.{setting_of, order_of, ask_of}
-use Rattle.plain_words.specs.Plain.{numbers_said, plain_words, plain_of, ThereAndBack}
+use Rattle.plain_words.specs.Plain.{numbers_said, plain_of, ThereAndBack}
 
 -- a number has no space in it
 no_space_end : (w : List ℕ) (b : ℕ) → NoSpace w → (b ≡ space → ⊥) → NoSpace (w ++ (b ∷ []))

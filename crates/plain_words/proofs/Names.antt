@@ -3,22 +3,23 @@
 use mathlib.Core.Path.{◌≡◌, refl, sym, ap, ◌∙◌, subst}
 use mathlib.Core.Bool.{Bool, true, false}
 use mathlib.Core.List.{List, [], ◌∷◌, ◌++◌, append_assoc, append-nil}
-use Prim.Native.Nat.{ℕ, ◌≤◌, ◌<◌}
+use Prim.Native.Nat.{ℕ, ◌+◌, ◌≤◌, ◌<◌}
 use native.Mathlib.Omega.{arith}
-use borrow.Author.Tests.{ltb-true, ltb-false}
+use borrow.Author.Tests.{ltb-true, ltb-false, le-leb}
 use lib.Dec.{eqb, ltb}
 use lib.ListN.{length, get_or, drop}
 use Rattle.base.specs.Pick.{pick}
 use Rattle.base.proofs.Cases.{split}
+use Rattle.text.specs.Page.{fitting}
 use Rattle.numerals.specs.Decimal.{decimal}
 use Rattle.splitting.specs.Words.{space, words_of, spoken}
 use Rattle.wording.specs.declared.Command.{Command}
 use Rattle.wording.specs.declared.Command.TheVariants.{Relay, Iel, HeadMask, Target, Limit, Mode, Stepping, Multiplexers, DirectionWindow, EnergyWindow}
 use Rattle.menu_names.specs.Names.{rows, name_words, name_of}
 use Rattle.menu_names.proofs.Rows.{each, words_at, no_name}
-use Rattle.menu_rows.specs.Rows.{wanted, relay_row, entry_of}
+use Rattle.menu_rows.specs.Rows.{wanted, entry_of}
 use Rattle.menu_rows.proofs.Laws.{in_menu as rows-in-menu}
-use Rattle.plain_words.specs.Plain.{numbers_said, plain_words, plain_of, settings_said}
+use Rattle.plain_words.specs.Plain.{numbers_said, plain_of, settings_said}
 
 -- names of one word and of two
 pub one_word : (ws : List (List ℕ)) → length ws < 2 → get_or ws 0 [] ≡ spoken ws
@@ -46,6 +47,11 @@ name_short row =
 -- a word of the twenty bytes is a word of the name
 pub word_of_name : (row k : ℕ) (name : List ℕ) → name ≡ name_of row → get_or (words_of name) k [] ≡ get_or (name_words row) k []
 word_of_name row k name e = ap (λ (x : List ℕ). get_or (words_of x) k []) e ∙ ap (λ (ws : List (List ℕ)). get_or ws k []) (words_at row)
+
+-- where the page has room for it, all of a text is put
+pub fitted : (most at : ℕ) (p s : List ℕ) → at + most ≤ length p → fitting most at p s ≡ s
+unfolding fitting
+fitted most at p s h = rw (le-leb (at + most) (length p) h)
 
 -- words behind others, with a space before each
 further : (w : List ℕ) (ws : List (List ℕ)) (v : List ℕ) → spoken ((w ∷ ws) ++ (v ∷ [])) ≡ spoken (w ∷ ws) ++ (space ∷ v)

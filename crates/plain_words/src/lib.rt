@@ -15,6 +15,7 @@ use wording::Command;
 pub const PLAIN: usize = 28;
 
 // The name of a row: one word, or two with a space between.
+#[tactic(auto, using(crate::proofs::Names::one_word, crate::proofs::Names::name_short, crate::proofs::Names::fitted, menu_names::proofs::Rows::words_at))]
 fn put_name(row: usize, page: &mut [u8], at: usize) -> usize
     requires { at + 20 ≤ length page.old }
     ensures { Puts at (spoken (name_words row)) page.old result page.new × (result ≤ at + 20) }
@@ -66,6 +67,7 @@ fn put_entry(c: Command, page: &mut [u8], at: usize) -> usize
 }
 
 // A command in plain words. Where the page has no room for the longest, nothing is put.
+#[tactic(auto, using(crate::proofs::Names::fitted, text::proofs::Puts::left_out))]
 pub fn put_plain(c: Command, page: &mut [u8], at: usize) -> usize
     ensures { Puts at (fitting 28 at page.old (plain_of c)) page.old result page.new × (result ≤ at + 28) }
 {
