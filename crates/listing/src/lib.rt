@@ -40,7 +40,7 @@ pub fn open(page: &mut [u8; PAGE]) -> Listed
         × Within result.len page.new }
 {
     let rig = rig::start();
-    let len = bytes::copy(b"word answer\n", page);
+    let len = text::put(b"word answer\n", page, 0);
     Listed {
         lister: Lister {
             rig,
@@ -62,7 +62,7 @@ pub fn finish(lister: Lister, page: &mut [u8; PAGE]) -> usize
     match lone {
         Lone::Nothing => last_line::put_last_line(faults, page, 0),
         Lone::High(_) => {
-            let at = bytes::copy(b"odd byte\n", page);
+            let at = text::put(b"odd byte\n", page, 0);
             last_line::put_last_line(faults, page, at)
         }
     }
