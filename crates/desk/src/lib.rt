@@ -74,6 +74,7 @@ fn heard(desk: Desk, frame: &[u8], i: u8, b: u8) -> Desk
 }
 
 // The bytes of a slot: a whole frame is heard, fill is a miss; where they are not 40, no slot passes.
+#[tactic(auto, using(frame::proofs::Came::came_whole), unfolding(crate::specs::Desk::slot_of))]
 pub fn slot(desk: Desk, frame: &[u8]) -> Received
     ensures { result ≡ slot_of desk frame.now }
 {

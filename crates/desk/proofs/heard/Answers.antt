@@ -1,0 +1,25 @@
+-- `desk::heard` meets its contract: the cells, and what is half read.
+-- Assumes nothing.
+use Rattle.std.proofs.Common.{◌≡◌, ◌∙◌, List, ℕ}
+use Rattle.cell.specs.declared.Cell.{Cell}
+use Rattle.half.specs.declared.Half.{Half}
+use Rattle.cells.specs.Cells.{cells_after}
+use Rattle.bringing.specs.Bringing.{told_by}
+use Rattle.desk.specs.declared.Desk.{Desk}
+use Rattle.desk.specs.Desk.{reading_of, half_after, heard_of}
+use Rattle.cells.proofs.Cells.{cells_same}
+use Rattle.desk.proofs.Readings.{reading_is, half_is}
+use Rattle.desk.proofs.heard.Goals as goal
+
+by_parts : (d : Desk) (f : List ℕ) (cs : List Cell) (h : Half)
+    → cs ≡ cells_after (reading_of d.half f) d.cells → h ≡ half_after d.half f → ◌≡◌ {A = Desk} record { cells = cs; half = h } (heard_of d f)
+by_parts d f cs h p q = rw (p, q)
+
+pub returns : goal.returns
+returns c =
+    let a = c.args in
+    let f = a.frame.now in
+    let half = a.desk.half in
+    by_parts a.desk f _ _
+    (c.cells_after-cells.ensures ∙ cells_same (told_by half f a.i a.b) (reading_of half f) a.desk.cells (reading_is half f a.i a.b c.requires.0 c.requires.1 c.requires.2))
+    (c.half_after-next.ensures ∙ half_is half f a.i a.b c.requires.1 c.requires.2)
