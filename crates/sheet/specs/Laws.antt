@@ -1,6 +1,6 @@
 -- What is true of the sheet of a desk, in numbers: which reading is which, and that one reading alone makes no sheet.
 -- Keeps 01 "Volts". Assumes nothing.
-use Rattle.std.specs.Prelude.{◌≡◌, ℕ, pos, negsuc}
+use Rattle.std.specs.Prelude.{◌≡◌, pos, negsuc}
 use Rattle.base.specs.declared.Frames.{Frames}
 use Rattle.cell.specs.declared.Shown.{Shown}
 use Rattle.cell.specs.declared.Shown.TheVariants as shown

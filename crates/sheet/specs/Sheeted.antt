@@ -9,6 +9,6 @@ use Rattle.sheet.specs.declared.Sheeted.{Sheeted}
 use Rattle.sheet.specs.declared.Sheeted.TheVariants.{Unknown, Is}
 
 abbrev pub InVolts : Shown → Shown → Sheeted → Type 0
-InVolts shown.Unknown ground r = r ≡ Unknown
+InVolts shown.Unknown g r = r ≡ Unknown
 InVolts (shown.Known b age) shown.Unknown r = r ≡ Unknown
 InVolts (shown.Known b age) (shown.Known g old) r = (s : Sheet) × (r ≡ Is s) × Shows (b % 256) (g % 256) s
