@@ -1,20 +1,19 @@
 -- What was written into four words of room; and lines of words, one more at the end.
 -- Assumes nothing.
 use mathlib.Core.Path.{◌≡◌, refl, sym, ap, ◌∙◌, subst}
-use mathlib.Core.Bool.{true, false}
 use mathlib.Core.List.{List, [], ◌∷◌, ◌++◌, append_assoc, append-nil}
 use Prim.Native.Nat.{ℕ, zero, suc, ◌+◌, ◌*◌, ◌≤◌, ◌<◌}
 use native.Mathlib.Nat.{not-suc-le-zero, le_of_suc-le-suc}
 use native.Mathlib.Omega.{arith}
 use borrow.Author.Tests.{le-leb}
+use lib.Dec.{leb}
 use lib.ListN.{length, get_or, take, drop, length-append}
 use lib.Seq.{take_at}
-use Rattle.base.specs.Pick.{pick}
 use Rattle.base.proofs.Cases.{split}
+use Rattle.text.specs.Page.{fitting}
 use Rattle.wording.specs.declared.Command.{Command}
 use Rattle.wording.specs.declared.Command.TheVariants.{Relay, Iel, HeadMask, Target, Limit, Mode, Stepping, Multiplexers, DirectionWindow, EnergyWindow}
 use Rattle.wording.specs.declared.Refusal.{Refusal}
-use Rattle.wording.specs.declared.Refusal.TheVariants.{TooWide}
 use Rattle.wording.specs.declared.Wrote.{Wrote}
 use Rattle.wording.specs.declared.Wrote.TheVariants.{Words, Refused}
 use Rattle.wording.specs.Written.{fits, words_of, wrote_of, written_of}
@@ -68,3 +67,8 @@ one_more_lem (w ∷ ws) (suc i) h =
 pub lines_length : (ws : List ℕ) → length (hex_lines ws) ≡ 5 * length ws
 lines_length [] = refl
 lines_length (w ∷ ws) = let n = length-append (hex_line w) (hex_lines ws) in let h = lines_length ws in omega (arith, n, h)
+
+-- of no text nothing is put, whatever the room
+pub nothing : (most at : ℕ) (page : List ℕ) → fitting most at page [] ≡ []
+unfolding fitting
+nothing most at page = split (leb (at + most) (length page)) (λ e. rw e) (λ e. rw e)

@@ -11,7 +11,7 @@ use Rattle.wording.specs.declared.Command.TheVariants.{HeadMask, Target, Steppin
 use Rattle.wording.specs.declared.Refusal.TheVariants.{NotOne}
 use Rattle.wording.specs.declared.Meant.TheVariants.{Is, Refused}
 use Rattle.plain_words.specs.Plain.{plain_of}
-use Rattle.asking.specs.declared.Asked.TheVariants.{Order, TooWide, Means, NotRead}
+use Rattle.asking.specs.declared.Asked.TheVariants.{Order, TooWide, Means}
 use Rattle.answering.specs.Answers.{refused_line, order_lines, answer_of}
 
 -- the block of case a

@@ -16,6 +16,7 @@ use wording::{Command, Meant, Refusal, Wrote};
 pub const PAGE: usize = 32;
 
 // A word in hex on a line of its own.
+#[tactic(auto, using(plain_words::proofs::Names::fitted))]
 fn put_line(word: u16, page: &mut [u8], at: usize) -> usize
     requires { at + 5 ≤ length page.old }
     ensures { Puts at (hex_line word) page.old result page.new }
@@ -94,6 +95,7 @@ fn put_asked(asked: Asked, page: &mut [u8]) -> usize
 }
 
 // The answer to what a line asks for, at the front of a page. Where the page has no room for the longest answer, nothing is put.
+#[tactic(auto, using(plain_words::proofs::Names::fitted, text::proofs::Puts::left_out))]
 pub fn put_answer(asked: Asked, page: &mut [u8]) -> usize
     ensures { Puts 0 (fitting 32 0 page.old (answer_of asked)) page.old result page.new × (result ≤ 32) }
 {
@@ -104,6 +106,7 @@ pub fn put_answer(asked: Asked, page: &mut [u8]) -> usize
 }
 
 // The answer to a line that a stream has brought: to one that is too long too, and none where there is no line.
+#[tactic(auto, using(text::proofs::Puts::put_nil, crate::proofs::Orders::nothing))]
 pub fn put_reply(said: Said, line: &[u8; ROOM], page: &mut [u8]) -> usize
     ensures { Puts 0 (fitting 32 0 page.old (line_answer said line.now)) page.old result page.new × (result ≤ 32) }
 {
