@@ -23,6 +23,7 @@ held_of r =
     let stop = r.core.stop in
     let start = r.core.start in
     let deflection = r.core.deflection in
+    let ground : ℕ = r.panel.ground in
     record {
       parallel = bit settings.parallel;
       mux1 = sensor.mux.byte % 2;
@@ -38,7 +39,7 @@ held_of r =
       reduced = (r.edbs.0 + 63) % 64;
       bias = r.panel.bias;
       relay = bit stop.relay;
-      ground = r.panel.ground;
+      ground = ground;
       stopstepping = bit stop.stepping;
       stoplimit = stop.limit;
       stoplevel = stop.level;
