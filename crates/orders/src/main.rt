@@ -6,6 +6,7 @@ mod outcome; // outcome.rt: what one command comes to
 mod trying; // trying.rt: a command's words, sent or read back
 
 use menu_rows::Entry;
+use std::io;
 
 // How many commands a row makes: a setting has 256 values.
 fn tries(row: usize) -> u32 {
@@ -18,51 +19,46 @@ fn tries(row: usize) -> u32 {
 }
 
 // The outcomes that came, and how often.
-fn say_counts(counts: &[u64]) {
-    let mut k: usize = 0;
-    while k < counts.len() {
-        let n = counts[k];
-        if n != 0 {
-            printing::number_after(b", ", n);
-            outcome::say((k % 256) as u8);
+fn say_counts(rt: &impl Print, counts: &[u64]) -> io::Result<()> {
+    for (k, n) in counts.iter().enumerate() {
+        if *n != 0 {
+            printing::number_after(rt, b", ", *n)?;
+            outcome::say(rt, (k % 256) as u8)?;
         }
-        k += 1;
     }
+    Ok(())
 }
 
 // What one party makes of so many commands of a row.
-fn tell(row: usize, n: u32, party: u8) {
+fn tell(rt: &impl Print, row: usize, n: u32, party: u8) -> io::Result<()> {
     let mut counts = [0u64; 256];
-    let mut k: u32 = 0;
-    while k < n {
+    for k in 0..n {
         let e = Entry {
             row,
             first: (k % 256) as u8,
             second: (k / 256 % 256) as u8,
         };
         let at = outcome::of_entry(e, party) as usize;
-        counts[at] = std::num::wrapping_add_u64(counts[at], 1);
-        k += 1;
+        counts[at] = counts[at].wrapping_add(1);
     }
-    say_counts(&counts[0..outcome::NONE as usize]);
+    say_counts(rt, &counts[0..outcome::NONE as usize])
 }
 
-fn say_line(row: usize) {
+fn say_line(rt: &impl Print, row: usize) -> io::Result<()> {
     let n = tries(row);
-    printing::text(&menu_names::name_of(row));
-    printing::number_after(b": tried ", n as u64);
-    tell(row, n, outcome::READER);
-    printing::text(b"; by a fresh rig");
-    tell(row, n, outcome::FRESH);
-    printing::text(b"; by a ready rig");
-    tell(row, n, outcome::READY);
-    printing::end();
+    printing::text(rt, &menu_names::name_of(row))?;
+    printing::number_after(rt, b": tried ", u64::from(n))?;
+    tell(rt, row, n, outcome::READER)?;
+    printing::text(rt, b"; by a fresh rig")?;
+    tell(rt, row, n, outcome::FRESH)?;
+    printing::text(rt, b"; by a ready rig")?;
+    tell(rt, row, n, outcome::READY)?;
+    printing::end(rt)
 }
 
-fn main() {
-    let mut row: usize = 0;
-    while row < menu_names::ROWS {
-        say_line(row);
-        row += 1;
+fn main(rt: HostRuntime) -> io::Result<()> {
+    for row in 0..menu_names::ROWS {
+        say_line(&rt, row)?;
     }
+    Ok(())
 }

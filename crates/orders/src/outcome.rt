@@ -2,6 +2,7 @@
 // Keeps 02 (i) and (iv). An outcome is the number of a refusal, or one of those named here.
 use crate::trying;
 use menu_rows::Entry;
+use std::io;
 use wording::Wrote;
 
 const ACCEPTED: u8 = 0;
@@ -48,15 +49,15 @@ pub(crate) fn of_entry(e: Entry, party: u8) -> u8 {
 }
 
 // An outcome in words.
-pub(crate) fn say(outcome: u8) {
+pub(crate) fn say(rt: &impl Print, outcome: u8) -> io::Result<()> {
     match outcome {
-        ACCEPTED => printing::text(b" accepted"),
-        ALIKE => printing::text(b" written, read back and written again alike"),
-        25 => printing::text(b" refused 25"),
+        ACCEPTED => printing::text(rt, b" accepted"),
+        ALIKE => printing::text(rt, b" written, read back and written again alike"),
+        25 => printing::text(rt, b" refused 25"),
         1..=15 => {
-            printing::text(b" refused ");
-            printing::byte(outcome);
+            printing::text(rt, b" refused ")?;
+            printing::byte(rt, outcome)
         }
-        _ => printing::text(b" otherwise"),
+        _ => printing::text(rt, b" otherwise"),
     }
 }

@@ -9,14 +9,12 @@ use wording::{Meant, Wrote};
 pub(crate) fn sent(rig: Rig, list: &[u16]) -> u8 {
     let mut r = rig;
     let mut last = outcome::OTHER;
-    let mut i: usize = 0;
-    while i < list.len() {
+    for i in 0..list.len() {
         let taken = words::take(r, list[i]);
         r = taken.rig;
         let reply = taken.reply;
         last = numbers::numbers_of(reply).first;
-        i += 1;
-        if r.pending.waiting == (i == list.len()) {
+        if r.pending.waiting == (i + 1 == list.len()) {
             return outcome::OTHER;
         }
     }
@@ -48,12 +46,10 @@ fn alike(a: &[u16], b: &[u16]) -> bool {
     if a.len() != b.len() {
         return false;
     }
-    let mut i: usize = 0;
-    while i < a.len() {
+    for i in 0..a.len() {
         if a[i] != b[i] {
             return false;
         }
-        i += 1;
     }
     true
 }
