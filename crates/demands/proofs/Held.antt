@@ -4,11 +4,9 @@ use mathlib.Core.Path.{◌≡◌, refl, ap, sym, ◌∙◌}
 use mathlib.Core.Bool.{Bool, true, false, not, ◌&&◌, ◌||◌, true≢false}
 use mathlib.Core.List.{List, [], ◌∷◌}
 use Prim.Native.Nat.{ℕ, ◌<◌}
-use native.Mathlib.Omega.{arith}
 use lib.Dec.{T, eqb, eqb→eq}
 use lib.ListN.{get_or}
-use borrow.Author.Tests.{eqb-true, eqb-false, eq-eqb, ne_eqb}
-use Rattle.base.specs.Pick.{pick}
+use borrow.Author.Tests.{eq-eqb, ne_eqb}
 use Rattle.base.proofs.Cases.{split}
 use Rattle.base.proofs.Table.{both, both_left, both_right, all_below, below}
 use Rattle.supply.specs.Rules.{relay_of, targeted, limited, switched}
@@ -25,7 +23,7 @@ use Rattle.power.specs.Power.{set_of}
 use Rattle.sending.specs.Sending.{held_of}
 use Rattle.laws.specs.Runs.{ours}
 use Rattle.demands.specs.Outfit.{Outfit, proved}
-use Rattle.demands.specs.Held.{doing, Row, table, starts, says, after_frames, Bytes, True, Every, HeldTable, names, stands, parts, apart, swapped, Settles}
+use Rattle.demands.specs.Held.{doing, Row, table, starts, says, after_frames, Bytes, Every, HeldTable, stands, parts, apart, swapped, Settles}
 
 abbrev held : Rig → ℕ → ℕ
 held r k = held_at (held_of r) k

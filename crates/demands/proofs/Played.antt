@@ -1,7 +1,7 @@
 -- Each step of a run is what the functions of `bench`, `slots`, `passing` and `losing` do: from their contracts, and what a buffer with room holds once a frame is built.
 -- Assumes nothing.
 use mathlib.Core.Path.{◌≡◌, refl, ◌∙◌, ap, sym}
-use mathlib.Core.List.{List, [], ◌∷◌}
+use mathlib.Core.List.{List, []}
 use Prim.Native.Nat.{ℕ, ◌+◌, ◌≤◌, ◌<◌}
 use lib.ListN.{length, take, drop}
 use borrow.Author.Tests.{lt-ltb}

@@ -5,9 +5,8 @@ use mathlib.Core.Path.{◌≡◌, refl, ◌∙◌, sym, ap, subst}
 use mathlib.Core.List.{List, [], ◌∷◌, ◌++◌}
 use Prim.Native.Nat.{ℕ, zero, suc, ◌+◌}
 use native.Mathlib.Omega.{arith}
-use lib.ListN.{length, replicate}
+use lib.ListN.{replicate}
 use Rattle.base.specs.declared.Frames.{Frames}
-use Rattle.frame.specs.declared.Item.{Item}
 use Rattle.frame.specs.Items.{row_of}
 use Rattle.desk.specs.declared.Desk.{Desk}
 use Rattle.cell.specs.declared.Shown.TheVariants.{Known}
@@ -17,7 +16,7 @@ use Rattle.demands.specs.Outfit.{Outfit}
 use Rattle.demands.specs.AtOnce.{AtOnceFor, World, Turn, arrives, lost, lost_c0, lost_ff, start, next, run}
 use Rattle.demands.specs.AtOnce as world
 use Rattle.demands.specs.Demand3.{Demand3For}
-use Rattle.demands.specs.Queue.{Line, Alone, word, spin, set, cut, no_room, Empty, marked, C0, FF, Step, alone, built, came, gone, idle, torn, begin, moved, unheard, arrive, lose, step, steps, Beat, build, hand, beat, beats, builds}
+use Rattle.demands.specs.Queue.{Line, Alone, word, spin, set, cut, no_room, Empty, marked, C0, FF, Step, alone, built, came, gone, idle, torn, begin, moved, unheard, arrive, lose, step, steps, Beat, build, hand, beats, builds}
 
 -- what has happened to the rig since: something to it alone, or a frame built
 data Move : Type 0 where

@@ -1,7 +1,7 @@
 -- Frames on their way, by example: two on their way at once, and what a frame that overtakes another does to demand 3.
 -- Assumes nothing.
 use mathlib.Core.Path.{◌≡◌, refl}
-use mathlib.Core.List.{List, [], ◌∷◌, ◌++◌}
+use mathlib.Core.List.{List, [], ◌∷◌}
 use Prim.Native.Nat.{ℕ}
 use native.Mathlib.Omega.{arith}
 use Rattle.base.specs.Counts.{frames}
@@ -10,7 +10,7 @@ use Rattle.frame.specs.Items.{row_of}
 use Rattle.frame.specs.Write.{quarter_of, ground_at, mux_of, frame_of}
 use Rattle.frame.specs.Read.{all_are, arrived_of, is_plain}
 use Rattle.cell.specs.declared.Shown.{Shown}
-use Rattle.cell.specs.declared.Shown.TheVariants.{Unknown, Known}
+use Rattle.cell.specs.declared.Shown.TheVariants.{Known}
 use Rattle.cells.specs.Cells.{cells_after}
 use Rattle.desk.specs.Desk.{reading_of, half_after, slot_of}
 use Rattle.demands.specs.History.{missed, whole, Told}

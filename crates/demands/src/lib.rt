@@ -2,4 +2,3 @@
 // `rig`, `power`, `sending`, `desk`, `bench`, `word_writer` and `word_reader` are proved to meet. Keeps 01 whole and 02 (i), and says which demand
 // catches each of 01's five frauds.
 #![tactic(auto)]
-
