@@ -2,51 +2,57 @@
 // Keeps 01 "Command words": what the sender of a word hears.
 #![tactic(auto)]
 
-ghost use Rattle.std.specs.Prelude.{◌≡◌, [], ◌∷◌};
+ghost use Rattle.std.specs.Prelude.{◌≡◌, [], ◌∷◌, IfOk};
 ghost use Rattle.steps.specs.Steps.{sent_one, sent_all, spun_times};
 
 use bench::Bench;
+use std::io;
 
 // A word sent, with its line.
-pub fn send(bench: Bench, word: u16) -> Bench
-    ensures { result ≡ sent_one bench word }
+pub fn send(rt: &impl Print, bench: Bench, word: u16) -> io::Result<Bench>
+    ensures { IfOk result (λ b. b ≡ sent_one bench word) }
 {
     let worded = bench::word(bench, word);
     let reply = worded.reply;
-    telling::word(word, reply);
-    worded.bench
+    telling::word(rt, word, reply)?;
+    Ok(worded.bench)
 }
 
 // Words sent in their order.
-pub fn send_all(bench: Bench, words: &[u16]) -> Bench
-    ensures { result ≡ sent_all bench words.now }
+#[tactic(auto, using(crate::proofs::Runs::sent_next, crate::proofs::Runs::sent_end))]
+pub fn send_all(rt: &impl Print, bench: Bench, words: &[u16]) -> io::Result<Bench>
+    ensures { IfOk result (λ b. b ≡ sent_all bench words.now) }
 {
     let mut b = bench;
-    let mut i: usize = 0;
-    while i < words.len() {
-        b = send(b, words[i]);
-        i += 1;
+    for i in 0..words.len() {
+        b = send(rt, b, words[i])?;
     }
-    b
+    Ok(b)
 }
 
 // The four words of a block that sets two bytes.
-pub fn block(bench: Bench, head: u16, first: u16, second: u16, end: u16) -> Bench
-    ensures { result ≡ sent_all bench (head ∷ first ∷ second ∷ end ∷ []) }
+pub fn block(
+    rt: &impl Print,
+    bench: Bench,
+    head: u16,
+    first: u16,
+    second: u16,
+    end: u16,
+) -> io::Result<Bench>
+    ensures { IfOk result (λ b. b ≡ sent_all bench (head ∷ first ∷ second ∷ end ∷ [])) }
 {
-    send_all(bench, &[head, first, second, end])
+    send_all(rt, bench, &[head, first, second, end])
 }
 
 // So many spins.
-pub fn spins(bench: Bench, times: u32) -> Bench
-    ensures { result ≡ spun_times bench times }
+#[tactic(auto, using(crate::proofs::Runs::spun_next, crate::proofs::Runs::spun_end))]
+pub fn spins(rt: &impl Print, bench: Bench, times: u32) -> io::Result<Bench>
+    ensures { IfOk result (λ b. b ≡ spun_times bench times) }
 {
-    telling::spins(times);
+    telling::spins(rt, times)?;
     let mut b = bench;
-    let mut i: u32 = 0;
-    while i < times {
+    for _ in 0..times {
         b = bench::spin(b);
-        i += 1;
     }
-    b
+    Ok(b)
 }
