@@ -3,80 +3,84 @@
 #![tactic(auto)]
 
 use cutting::{Held, ROOM, Said};
-use libc::{STDERR_FILENO, STDIN_FILENO, STDOUT_FILENO};
+use std::io;
+use std::io::Read;
 
 // The most bytes that are read at once.
 const PIECE: usize = 4096;
 
-// How a turn of the reading loop ends: more may come, the input has ended, or a read or a write failed.
+// How a turn of the reading loop ends: more may come, or the input has ended.
 #[derive(Clone, Copy)]
 enum Next {
     More(Held),
     End,
-    Failed,
 }
 
-// Writes the answer to a line. Says whether it could.
-fn tell(said: Said, line: &[u8; ROOM]) -> bool {
+// Writes the answer to a line.
+fn tell(rt: &impl Print, said: Said, line: &[u8; ROOM]) -> io::Result<()> {
     let mut page = [0u8; answering::PAGE];
     let n = answering::put_reply(said, line, &mut page);
-    io::write_all(STDOUT_FILENO, &page[..n])
+    rt.write_all(&page[..n])
 }
 
-// Says on standard error what failed.
-fn failed(why: &[u8]) -> Next {
-    io::write_all(STDERR_FILENO, why);
-    Next::Failed
+// Says on standard error what failed, and hands the error back.
+fn failed(rt: &impl Eprint, why: &str, error: io::Error) -> io::Error {
+    let _ = rt.eprint(why);
+    error
+}
+
+// Writes the answer to a line, and says so where that fails.
+fn answer(rt: &(impl Print + Eprint), said: Said, line: &[u8; ROOM]) -> io::Result<()> {
+    match tell(rt, said, line) {
+        Ok(()) => Ok(()),
+        Err(error) => Err(failed(rt, "menu: cannot write\n", error)),
+    }
 }
 
 // Answers the lines that a piece completes.
-fn feed(held: Held, piece: &[u8], line: &mut [u8; ROOM]) -> Next {
+fn feed(
+    rt: &(impl Print + Eprint),
+    held: Held,
+    piece: &[u8],
+    line: &mut [u8; ROOM],
+) -> io::Result<Held> {
     let mut now = held;
     let mut at: usize = 0;
     while at < piece.len() {
         let step = cutting::next(now, piece, at, line);
-        let next = step.held;
         let said = step.said;
-        now = next;
+        now = step.held;
         at = step.at;
-        if !tell(said, line) {
-            return failed(b"menu: cannot write\n");
-        }
+        answer(rt, said, line)?;
     }
-    Next::More(now)
+    Ok(now)
 }
 
 // Reads once and answers the lines of what came.
-fn turn(held: Held, line: &mut [u8; ROOM]) -> Next {
+fn turn(
+    rt: &(impl Print + Eprint),
+    input: &mut impl Read,
+    held: Held,
+    line: &mut [u8; ROOM],
+) -> io::Result<Next> {
     let mut piece = [0u8; PIECE];
-    let got = libc::read(STDIN_FILENO, &mut piece);
-    if got < 0 {
-        return failed(b"menu: cannot read\n");
+    match input.read(&mut piece) {
+        Ok(0) => Ok(Next::End),
+        Ok(n) => Ok(Next::More(feed(rt, held, &piece[..n], line)?)),
+        Err(error) => Err(failed(rt, "menu: cannot read\n", error)),
     }
-    if got == 0 {
-        return Next::End;
-    }
-    let n = io::count(got, &piece);
-    feed(held, &piece[..n], line)
 }
 
-// Reads to the end of the input and answers its last line. A proved loop has to end, and nothing says that the input does: so it counts its turns down,
-// from 2^64 - 1.
-fn main() {
+// Reads to the end of the input and answers its last line. A proved loop has to end, and nothing says that the input does: so it has 2^64 - 1 turns.
+fn main(rt: HostRuntime) -> io::Result<()> {
+    let mut input = rt.stdin();
     let mut line = [0u8; ROOM];
     let mut held = cutting::begin();
-    let mut turns = u64::MAX;
-    while turns > 0 {
-        let next = turn(held, &mut line);
-        match next {
+    for _ in 0..u64::MAX {
+        match turn(&rt, &mut input, held, &mut line)? {
             Next::More(after) => held = after,
-            Next::End => {
-                let said = cutting::finish(held, &line);
-                tell(said, &line);
-                return;
-            }
-            Next::Failed => return,
+            Next::End => return tell(&rt, cutting::finish(held, &line), &line),
         }
-        turns -= 1;
     }
+    Ok(())
 }
