@@ -5,7 +5,9 @@
 mod checks; // checks.rt: the check
 mod cases; // cases.rt: 01's cases a to l
 
-fn main() {
-    checks::run();
-    cases::run();
+use std::io;
+
+fn main(rt: HostRuntime) -> io::Result<()> {
+    checks::run(&rt)?;
+    cases::run(&rt)
 }
