@@ -6,6 +6,7 @@ use bench::Bench;
 use desk::Desk;
 use frame::Item;
 use power::PanelSetting;
+use std::io;
 
 // A run is a list of steps. A step is a word to send, or one of these and a number. In each slot the rig builds its next frame.
 const WHOLE: u32 = 0x10000; // so many slots come whole, each with its line
@@ -98,72 +99,79 @@ enum Shows {
     Window,
 }
 
-fn say_item(desk: Desk, item: Item) {
-    printing::blank();
-    showing::say(desk, item);
+fn say_item(rt: &impl Print, desk: Desk, item: Item) -> io::Result<()> {
+    printing::blank(rt)?;
+    showing::say(rt, desk, item)
 }
 
-fn say_items(desk: Desk, shows: Shows) {
+fn say_items(rt: &impl Print, desk: Desk, shows: Shows) -> io::Result<()> {
     match shows {
-        Shows::Check => say_item(desk, Item::LastCheck),
-        Shows::Counter => say_item(desk, Item::LongCounter),
+        Shows::Check => say_item(rt, desk, Item::LastCheck)?,
+        Shows::Counter => say_item(rt, desk, Item::LongCounter)?,
         Shows::Three => {
-            say_item(desk, Item::LastInvalidCode);
-            say_item(desk, Item::Ground);
-            say_item(desk, Item::LongCounter);
+            say_item(rt, desk, Item::LastInvalidCode)?;
+            say_item(rt, desk, Item::Ground)?;
+            say_item(rt, desk, Item::LongCounter)?;
         }
         Shows::Window => {
-            say_item(desk, Item::EnergyStart);
-            say_item(desk, Item::EnergyStop);
+            say_item(rt, desk, Item::EnergyStart)?;
+            say_item(rt, desk, Item::EnergyStop)?;
         }
     }
-    printing::end();
+    printing::end(rt)
 }
 
 // The byte of a frame that a run is about.
-fn say_byte(f: &[u8; 40], shows: Shows) {
+fn say_byte(rt: &impl Print, f: &[u8; 40], shows: Shows) -> io::Result<()> {
     match shows {
         Shows::Window => {
-            printing::text(b" byte 10 ");
-            printing::byte(f[10]);
+            printing::text(rt, b" byte 10 ")?;
+            printing::byte(rt, f[10])
         }
         _ => {
-            printing::text(b" byte 39 ");
-            printing::byte(f[39]);
+            printing::text(rt, b" byte 39 ")?;
+            printing::byte(rt, f[39])
         }
     }
 }
 
 // The slot's number, from 0, and what came.
-fn say_slot(kind: u32, slot: u32, f: &[u8; 40], shows: Shows) {
-    printing::text(b"slot ");
-    printing::number(slot as u64);
+fn say_slot(rt: &impl Print, kind: u32, slot: u32, f: &[u8; 40], shows: Shows) -> io::Result<()> {
+    printing::text(rt, b"slot ")?;
+    printing::number(rt, u64::from(slot))?;
     match kind {
         WHOLE => {
-            printing::text(b" index ");
-            printing::small(f[0] % 32);
-            say_byte(f, shows);
+            printing::text(rt, b" index ")?;
+            printing::small(rt, f[0] % 32)?;
+            say_byte(rt, f, shows)
         }
-        MISSED => printing::text(b" missed"),
-        _ => printing::text(b" fill C0h"),
+        MISSED => printing::text(rt, b" missed"),
+        _ => printing::text(rt, b" fill C0h"),
     }
 }
 
-fn say_line(bench: Bench, kind: u32, slot: u32, f: &[u8; 40], shows: Shows) {
+fn say_line(
+    rt: &impl Print,
+    bench: Bench,
+    kind: u32,
+    slot: u32,
+    f: &[u8; 40],
+    shows: Shows,
+) -> io::Result<()> {
     if kind == PASS || kind == LOSE {
-        return;
+        return Ok(());
     }
     let desk = bench.desk;
-    say_slot(kind, slot, f, shows);
-    say_items(desk, shows);
+    say_slot(rt, kind, slot, f, shows)?;
+    say_items(rt, desk, shows)
 }
 
 // A slot whose frame is lost.
-fn lose(bench: Bench, kind: u32, slot: u32, shows: Shows) -> Bench {
+fn lose(rt: &impl Print, bench: Bench, kind: u32, slot: u32, shows: Shows) -> io::Result<Bench> {
     let mut f = [0u8; 40];
     let next = losing::lost(bench, &mut f, 0).bench;
-    say_line(next, kind, slot, &f, shows);
-    next
+    say_line(rt, next, kind, slot, &f, shows)?;
+    Ok(next)
 }
 
 fn hear(built: Bench, f: &[u8; 40]) -> Bench {
@@ -171,49 +179,61 @@ fn hear(built: Bench, f: &[u8; 40]) -> Bench {
 }
 
 // A slot that brings bytes: the frame, or fill in its place.
-fn bring(bench: Bench, kind: u32, slot: u32, shows: Shows) -> Bench {
+fn bring(rt: &impl Print, bench: Bench, kind: u32, slot: u32, shows: Shows) -> io::Result<Bench> {
     let mut f = [0u8; 40];
     let built = slots::build(bench, &mut f, 0).bench;
     if kind == FILL {
         f = [0xC0u8; 40];
     }
     let next = hear(built, &f);
-    say_line(next, kind, slot, &f, shows);
-    next
+    say_line(rt, next, kind, slot, &f, shows)?;
+    Ok(next)
 }
 
 // One slot.
-fn pass(bench: Bench, kind: u32, slot: u32, shows: Shows) -> Bench {
+fn pass(rt: &impl Print, bench: Bench, kind: u32, slot: u32, shows: Shows) -> io::Result<Bench> {
     match kind {
-        MISSED => lose(bench, kind, slot, shows),
-        LOSE => lose(bench, kind, slot, shows),
-        _ => bring(bench, kind, slot, shows),
+        MISSED => lose(rt, bench, kind, slot, shows),
+        LOSE => lose(rt, bench, kind, slot, shows),
+        _ => bring(rt, bench, kind, slot, shows),
     }
 }
 
-fn pass_all(bench: Bench, kind: u32, first: u32, times: u32, shows: Shows) -> Bench {
+fn pass_all(
+    rt: &impl Print,
+    bench: Bench,
+    kind: u32,
+    first: u32,
+    times: u32,
+    shows: Shows,
+) -> io::Result<Bench> {
     let mut b = bench;
-    let mut i: u32 = 0;
-    while i < times {
-        b = pass(b, kind, std::num::wrapping_add_u32(first, i), shows);
-        i += 1;
+    for i in 0..times {
+        b = pass(rt, b, kind, first.wrapping_add(i), shows)?;
     }
-    b
+    Ok(b)
 }
 
-fn ground(bench: Bench, value: u8) -> Bench {
-    printing::text(b"ground ");
-    printing::byte(value);
-    printing::text(b", ");
-    bench::set(bench, PanelSetting::Ground(value))
+fn ground(rt: &impl Print, bench: Bench, value: u8) -> io::Result<Bench> {
+    printing::text(rt, b"ground ")?;
+    printing::byte(rt, value)?;
+    printing::text(rt, b", ")?;
+    Ok(bench::set(bench, PanelSetting::Ground(value)))
 }
 
-fn step(bench: Bench, kind: u32, n: u32, slot: u32, shows: Shows) -> Bench {
+fn step(
+    rt: &impl Print,
+    bench: Bench,
+    kind: u32,
+    n: u32,
+    slot: u32,
+    shows: Shows,
+) -> io::Result<Bench> {
     match kind {
-        0 => steps::send(bench, (n % 65536) as u16),
-        SPIN => steps::spins(bench, n),
-        GROUND => ground(bench, (n % 256) as u8),
-        _ => pass_all(bench, kind, slot, n, shows),
+        0 => steps::send(rt, bench, (n % 65536) as u16),
+        SPIN => steps::spins(rt, bench, n),
+        GROUND => ground(rt, bench, (n % 256) as u8),
+        _ => pass_all(rt, bench, kind, slot, n, shows),
     }
 }
 
@@ -223,44 +243,46 @@ fn after(kind: u32, n: u32, slot: u32) -> u32 {
         0 => slot,
         SPIN => slot,
         GROUND => slot,
-        _ => std::num::wrapping_add_u32(slot, n),
+        _ => slot.wrapping_add(n),
     }
 }
 
-fn play(name: &[u8], list: &[u32], shows: Shows) {
-    printing::text(name);
+fn play(rt: &impl Print, name: &[u8], list: &[u32], shows: Shows) -> io::Result<()> {
+    printing::text(rt, name)?;
     let mut b = bench::fresh();
     let mut slot: u32 = 0;
-    let mut i: usize = 0;
-    while i < list.len() {
-        let next = list[i];
-        i += 1;
-        let n = next % 0x10000;
-        let kind = next - n;
-        b = step(b, kind, n, slot, shows);
+    for next in list {
+        let n = *next % 0x10000;
+        let kind = *next - n;
+        b = step(rt, b, kind, n, slot, shows)?;
         slot = after(kind, n, slot);
     }
+    Ok(())
 }
 
-fn main() {
+fn main(rt: HostRuntime) -> io::Result<()> {
     play(
+        &rt,
         b"mistake 1: reading the check byte before frame 21 brings it\n",
         &CHECK_TOO_EARLY,
         Shows::Check,
-    );
+    )?;
     play(
+        &rt,
         b"mistake 2: joining a counter from two rounds\n",
         &TWO_ROUNDS,
         Shows::Counter,
-    );
+    )?;
     play(
+        &rt,
         b"mistake 3: C0h fill taken for frame 0\n",
         &FILL_AS_FRAME_0,
         Shows::Three,
-    );
+    )?;
     play(
+        &rt,
         b"mistake 4: reading a window before the spin that takes it to the sensor\n",
         &WINDOW_TOO_EARLY,
         Shows::Window,
-    );
+    )
 }

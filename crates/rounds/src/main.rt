@@ -5,16 +5,18 @@
 use bench::Bench;
 use frame::Item;
 use power::PanelSetting;
+use std::io;
 
 // The blocks, the singles, one refusal, and three spins towards the target.
-fn commanded(bench: Bench) -> Bench {
-    let mux = steps::block(bench, 0x6002, 0xA041, 0xA001, 0xE049);
-    let direction = steps::block(mux, 0x6302, 0xA303, 0xA313, 0xE346);
-    let energy = steps::block(direction, 0x6402, 0xA401, 0xA41E, 0xE44F);
+fn commanded(rt: &impl Print, bench: Bench) -> io::Result<Bench> {
+    let mux = steps::block(rt, bench, 0x6002, 0xA041, 0xA001, 0xE049)?;
+    let direction = steps::block(rt, mux, 0x6302, 0xA303, 0xA313, 0xE346)?;
+    let energy = steps::block(rt, direction, 0x6402, 0xA401, 0xA41E, 0xE44F)?;
     let singles = [
         0x0C03, 0x2605, 0x2B01, 0x0802, 0x2D01, 0x290A, 0x2807, 0x280B,
     ];
-    steps::spins(steps::send_all(energy, &singles), 3)
+    let sent = steps::send_all(rt, energy, &singles)?;
+    steps::spins(rt, sent, 3)
 }
 
 fn setting(k: u32) -> PanelSetting {
@@ -27,63 +29,65 @@ fn setting(k: u32) -> PanelSetting {
     }
 }
 
-fn paneled(bench: Bench) -> Bench {
-    printing::text(b"bias 9Ah, ground 70h, free time 1234h, flaps 1 and 3\n");
+fn paneled(rt: &impl Print, bench: Bench) -> io::Result<Bench> {
+    printing::text(
+        rt,
+        b"bias 9Ah, ground 70h, free time 1234h, flaps 1 and 3\n",
+    )?;
     let mut b = bench;
-    let mut k: u32 = 0;
-    while k < 5 {
+    for k in 0..5 {
         b = bench::set(b, setting(k));
-        k += 1;
     }
-    b
+    Ok(b)
 }
 
 // A frame's line: frame 0 whole, of the others the bytes that the index governs.
-fn say_frame(f: &[u8; 40]) {
-    printing::text(b"frame ");
-    printing::small(f[0]);
+fn say_frame(rt: &impl Print, f: &[u8; 40]) -> io::Result<()> {
+    printing::text(rt, b"frame ")?;
+    printing::small(rt, f[0])?;
     if f[0] == 0 {
-        printing::part(f, 1, 40);
+        printing::part(rt, f, 1, 40)?;
     } else {
-        printing::text(b" bytes 37 to 39");
-        printing::part(f, 37, 40);
+        printing::text(rt, b" bytes 37 to 39")?;
+        printing::part(rt, f, 37, 40)?;
     }
-    printing::end();
+    printing::end(rt)
 }
 
 // Frames built and heard.
-fn all_heard(bench: Bench, times: u32) -> Bench {
+fn all_heard(rt: &impl Print, bench: Bench, times: u32) -> io::Result<Bench> {
     let mut b = bench;
-    let mut i: u32 = 0;
-    while i < times {
+    for _ in 0..times {
         let mut f = [0u8; 40];
         b = passing::arrives(b, &mut f, 0).bench;
-        say_frame(&f);
-        i += 1;
+        say_frame(rt, &f)?;
     }
-    b
+    Ok(b)
 }
 
 // The rig with every item set, after one round of its frames.
-fn one_round() -> Bench {
-    printing::text(b"a round of frames\n");
-    let spun = steps::spins(bench::fresh(), 66048);
-    all_heard(paneled(commanded(spun)), 32)
+fn one_round(rt: &impl Print) -> io::Result<Bench> {
+    printing::text(rt, b"a round of frames\n")?;
+    let spun = steps::spins(rt, bench::fresh(), 66048)?;
+    let ready = commanded(rt, spun)?;
+    let set = paneled(rt, ready)?;
+    all_heard(rt, set, 32)
 }
 
 // The two items that differ most after a power cut: one comes in every frame, the other stays until frame 21.
-fn after_the_cut(bench: Bench) {
+fn after_the_cut(rt: &impl Print, bench: Bench) -> io::Result<()> {
     let desk = bench.desk;
-    showing::say(desk, Item::LastInvalidCode);
-    printing::end();
-    showing::say(desk, Item::LastCheck);
-    printing::end();
+    showing::say(rt, desk, Item::LastInvalidCode)?;
+    printing::end(rt)?;
+    showing::say(rt, desk, Item::LastCheck)?;
+    printing::end(rt)
 }
 
-fn main() {
-    let round = one_round();
+fn main(rt: HostRuntime) -> io::Result<()> {
+    let round = one_round(&rt)?;
     let desk = round.desk;
-    showing::all(desk);
-    printing::text(b"power cut\n");
-    after_the_cut(all_heard(bench::power_cut(round), 1));
+    showing::all(&rt, desk)?;
+    printing::text(&rt, b"power cut\n")?;
+    let heard = all_heard(&rt, bench::power_cut(round), 1)?;
+    after_the_cut(&rt, heard)
 }
