@@ -2,90 +2,85 @@
 // Keeps 01 "Bench cases": the lister. What it writes is `listing`'s; it only reads and writes.
 #![tactic(auto)]
 
-use libc::{STDERR_FILENO, STDIN_FILENO, STDOUT_FILENO};
 use listing::Lister;
+use std::io;
+use std::io::Read;
 
-// How a turn of the reading loop ends: more may come, the input has ended, or a read or a write failed.
+// How a turn of the reading loop ends: more may come, or the input has ended.
 #[derive(Clone, Copy)]
 enum Next {
-    More,
+    More(Lister),
     End,
-    Failed,
 }
 
-#[derive(Clone, Copy)]
-struct Turned {
-    lister: Lister,
-    next: Next,
-}
-
-// Says on standard error what failed. The listing then has no last line.
-fn failed(lister: Lister, why: &[u8]) -> Turned {
-    io::write_all(STDERR_FILENO, why);
-    Turned {
-        lister,
-        next: Next::Failed,
-    }
+// Says on standard error what failed, and hands the error back. The listing then has no last line.
+fn failed(rt: &impl Eprint, why: &str, error: io::Error) -> io::Error {
+    let _ = rt.eprint(why);
+    error
 }
 
 // Writes a text on standard output.
-fn tell(lister: Lister, text: &[u8]) -> Turned {
-    if io::write_all(STDOUT_FILENO, text) {
-        return Turned {
-            lister,
-            next: Next::More,
-        };
+fn tell(rt: &(impl Print + Eprint), text: &[u8]) -> io::Result<()> {
+    match rt.write_all(text) {
+        Ok(()) => Ok(()),
+        Err(error) => Err(failed(rt, "lister: cannot write\n", error)),
     }
-    failed(lister, b"lister: cannot write\n")
+}
+
+// Reads once: how many bytes came.
+fn get(
+    rt: &impl Eprint,
+    input: &mut impl Read,
+    piece: &mut [u8; listing::PIECE],
+) -> io::Result<usize> {
+    match input.read(piece) {
+        Ok(n) => Ok(n),
+        Err(error) => Err(failed(rt, "lister: cannot read\n", error)),
+    }
 }
 
 // Reads once and writes the lines of what came.
-fn turn(lister: Lister, page: &mut [u8; listing::PAGE]) -> Turned {
+fn turn(
+    rt: &(impl Print + Eprint),
+    input: &mut impl Read,
+    lister: Lister,
+    page: &mut [u8; listing::PAGE],
+) -> io::Result<Next> {
     let mut piece = [0u8; listing::PIECE];
-    let got = libc::read(STDIN_FILENO, &mut piece);
-    if got < 0 {
-        return failed(lister, b"lister: cannot read\n");
+    let n = get(rt, input, &mut piece)?;
+    if n == 0 {
+        return Ok(Next::End);
     }
-    if got == 0 {
-        return Turned {
-            lister,
-            next: Next::End,
-        };
-    }
-    let n = io::count(got, &piece);
     let listed = pieces::list(lister, &piece, n, page);
     let len = listed.len;
     let whole: &[u8] = page;
-    tell(listed.lister, &whole[..len])
+    tell(rt, &whole[..len])?;
+    Ok(Next::More(listed.lister))
 }
 
-// Reads to the end of the input. A proved loop has to end, and nothing says that the input does: so it counts its turns down, from 2^64 - 1.
-fn list_all(begun: Turned, page: &mut [u8; listing::PAGE]) -> Turned {
+// Reads to the end of the input. A proved loop has to end, and nothing says that the input does: so it has 2^64 - 1 turns.
+fn list_all(
+    rt: &(impl Print + Eprint),
+    input: &mut impl Read,
+    begun: Lister,
+    page: &mut [u8; listing::PAGE],
+) -> io::Result<Lister> {
     let mut now = begun;
-    let mut turns = u64::MAX;
-    while turns > 0 {
-        let next = now.next;
-        if let Next::More = next {
-            now = turn(now.lister, page);
-            turns -= 1;
-        } else {
-            return now;
+    for _ in 0..u64::MAX {
+        match turn(rt, input, now, page)? {
+            Next::More(after) => now = after,
+            Next::End => return Ok(now),
         }
     }
-    now
+    Ok(now)
 }
 
-fn main() {
+fn main(rt: HostRuntime) -> io::Result<()> {
     let mut page = [0u8; listing::PAGE];
     let opened = listing::open(&mut page);
     let len = opened.len;
-    let begun = tell(opened.lister, &page[..len]);
-    let ended = list_all(begun, &mut page);
-    let next = ended.next;
-    if let Next::Failed = next {
-        return;
-    }
-    let state = ended.lister;
-    let last = listing::finish(state, &mut page);
-    tell(state, &page[..last]);
+    tell(&rt, &page[..len])?;
+    let ended = list_all(&rt, &mut rt.stdin(), opened.lister, &mut page)?;
+    let last = listing::finish(ended, &mut page);
+    tell(&rt, &page[..last])
 }

@@ -2,8 +2,8 @@
 // Keeps 01 "Bench cases": the lister's text; "Command words": each refusal, and each kind of word that drops a block.
 #![tactic(auto)]
 
-use libc::STDOUT_FILENO;
 use listing::Lister;
+use std::io;
 
 const WORDS: [u16; 67] = [
     0x2805, // relay off
@@ -76,34 +76,43 @@ const WORDS: [u16; 67] = [
 ];
 
 // The first n bytes of a word, as a piece of the stream.
-fn show(lister: Lister, word: u16, n: usize, page: &mut [u8; listing::PAGE]) -> Lister {
+fn show(
+    rt: &impl Print,
+    lister: Lister,
+    word: u16,
+    n: usize,
+    page: &mut [u8; listing::PAGE],
+) -> io::Result<Lister> {
     let mut piece = [0u8; listing::PIECE];
     piece[0] = (word / 256) as u8;
     piece[1] = (word % 256) as u8;
     let listed = pieces::list(lister, &piece, n, page);
     let len = listed.len;
     let whole: &[u8] = page;
-    io::write_all(STDOUT_FILENO, &whole[..len]);
-    listed.lister
+    rt.write_all(&whole[..len])?;
+    Ok(listed.lister)
 }
 
-fn show_all(lister: Lister, words: &[u16], page: &mut [u8; listing::PAGE]) -> Lister {
+fn show_all(
+    rt: &impl Print,
+    lister: Lister,
+    words: &[u16],
+    page: &mut [u8; listing::PAGE],
+) -> io::Result<Lister> {
     let mut state = lister;
-    let mut i: usize = 0;
-    while i < words.len() {
-        state = show(state, words[i], 2, page);
-        i += 1;
+    for word in words {
+        state = show(rt, state, *word, 2, page)?;
     }
-    state
+    Ok(state)
 }
 
-fn main() {
+fn main(rt: HostRuntime) -> io::Result<()> {
     let mut page = [0u8; listing::PAGE];
     let opened = listing::open(&mut page);
     let len = opened.len;
-    io::write_all(STDOUT_FILENO, &page[..len]);
-    let all = show_all(opened.lister, &WORDS, &mut page);
-    let odd = show(all, 0x0800, 1, &mut page);
+    rt.write_all(&page[..len])?;
+    let all = show_all(&rt, opened.lister, &WORDS, &mut page)?;
+    let odd = show(&rt, all, 0x0800, 1, &mut page)?;
     let last = listing::finish(odd, &mut page);
-    io::write_all(STDOUT_FILENO, &page[..last]);
+    rt.write_all(&page[..last])
 }
