@@ -5,7 +5,7 @@ use Rattle.frame.specs.Items.{row_of}
 use Rattle.frame.proofs.Rows.{row_lt}
 use Rattle.demands.specs.History.{Told}
 use Rattle.demands.specs.Outfit.{proved}
-use Rattle.demands.specs.AtOnce.{AtOnceFor, afterTurns}
+use Rattle.demands.specs.AtOnce.{AtOnceFor, after_turns}
 use Rattle.demands.proofs.Shown.{told}
 use Rattle.demands.proofs.Invariant.{desk_shows}
 use Rattle.demands.proofs.Window.{thirty_five}
@@ -14,7 +14,7 @@ pub at_once : AtOnceFor proved
 at_once =
     record {
       shown = λ es item.
-          subst (Told (row_of item) (afterTurns proved es).past) (sym (desk_shows es (row_of item) (row_lt item)))
-          (told (row_of item) (row_lt item) (afterTurns proved es).past);
+          subst (Told (row_of item) (after_turns proved es).past) (sym (desk_shows es (row_of item) (row_lt item)))
+          (told (row_of item) (row_lt item) (after_turns proved es).past);
       round = λ es item. thirty_five es (row_of item) (row_lt item);
     }

@@ -56,7 +56,7 @@ use Rattle.demands.specs.AnyDesk.{IsWhole, older, completed, replaced, half_by, 
 use Rattle.demands.specs.Demand1.{Demand1For}
 use Rattle.demands.specs.Demand2.{Demand2For}
 use Rattle.demands.specs.Demand3.{Demand3For, reached}
-use Rattle.demands.specs.One.{desk_of, OneTold, OneDesk, OneRig, Came, bytes, miss, allCome, OneHearing}
+use Rattle.demands.specs.One.{desk_of, OneTold, OneDesk, OneRig, Came, bytes, miss, all_come, OneHearing}
 use Rattle.demands.proofs.Shown.{brings_is}
 use Rattle.demands.proofs.AnyDesk.{slot_laws}
 use Rattle.demands.proofs.Demand1.{demand_1}
@@ -298,8 +298,8 @@ module _ (o : Outfit) (one : Demand1For o) (two : Demand2For o) where
         halves = mine.half d f w ∙ ap (λ (x : Half). half_by x (index_of f) (byte39 f)) m.halves ∙ sym (yours.half e f w);
       }
 
-  all_same : (cs : List Came) {d e : Desk} → SameDesk o d e → SameDesk o (allCome o d cs) (allCome proved e cs)
-  unfolding allCome
+  all_same : (cs : List Came) {d e : Desk} → SameDesk o d e → SameDesk o (all_come o d cs) (all_come proved e cs)
+  unfolding all_come
   all_same [] m = m
   all_same (bytes f ∷ cs) m = all_same cs (slot_same f (sort_of_lem f) m)
   all_same (miss ∷ cs) m = all_same cs (missed_same m)

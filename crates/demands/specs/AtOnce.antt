@@ -80,8 +80,8 @@ module _ (o : Outfit) where
   run w (e ∷ es) = run (next w e) es
 
   -- the world after any turns
-  abbrev pub afterTurns : List Turn → World
-  afterTurns es = run start es
+  abbrev pub after_turns : List Turn → World
+  after_turns es = run start es
 
 -- as many slots as make every item known: 35
 abbrev pub enough : Frames
@@ -89,10 +89,10 @@ enough = frames 35
 
 -- the world after any turns, and after so many whole slots more with nothing else happening
 abbrev pub then_whole : Outfit → List Turn → Frames → World
-then_whole o es n = run o (afterTurns o es) (replicate n.0 arrives)
+then_whole o es n = run o (after_turns o es) (replicate n.0 arrives)
 
 -- demand 3 over these runs, of any rig and desk
 pub record AtOnceFor (o : Outfit) : Type 0 where
-  pub shown : (es : List Turn) (item : Item) → Told (row_of item) (afterTurns o es).past (o.look (afterTurns o es).desk item)
+  pub shown : (es : List Turn) (item : Item) → Told (row_of item) (after_turns o es).past (o.look (after_turns o es).desk item)
   pub round : (es : List Turn) (item : Item)
       → (age : Frames) × (o.look (then_whole o es enough).desk item ≡ Known (held (then_whole o es enough).rig (row_of item)) age)

@@ -2,7 +2,7 @@
 -- Assumes nothing.
 use Rattle.std.specs.Prelude.{◌≡◌, List, [], ◌∷◌, ℕ}
 use Rattle.supply.specs.Rules as supply
-use Rattle.supply.specs.declared.Refusal.TheVariants as supplyRefusal
+use Rattle.supply.specs.declared.Refusal.TheVariants as supply_refusal
 use Rattle.judge.specs.Refusals as judge
 use Rattle.judge.specs.declared.Refusal.TheVariants.{RelayOff, Disabled, OverLimit, StrayWord, RelayBits, WrongCheck, Unsettled, OutOfRange, WrongCount, UnknownCode}
 use Rattle.rig.specs.declared.Reply.TheVariants.{Swallowed}
@@ -12,7 +12,7 @@ use Rattle.frame.specs.declared.Refusal.TheVariants.{NotForty, NoRoom}
 use Rattle.block.specs.Refusals as block
 use Rattle.block.specs.declared.Refusal.TheVariants.{NoMarker, WrongLength, InnerMarker, Beyond, Hidden, NotIfft}
 use Rattle.wording.specs.Refusals as wording
-use Rattle.wording.specs.declared.Refusal.TheVariants as wordingRefusal
+use Rattle.wording.specs.declared.Refusal.TheVariants as wording_refusal
 
 abbrev pub numbers : List (ℕ × ℕ)
 numbers =
@@ -31,12 +31,12 @@ numbers =
     ∷ (judge.number_of WrongCount, 0x0E)
     ∷ (judge.number_of UnknownCode, 0x0F)
     -- the supply's own, by the same numbers
-    ∷ (supply.number_of supplyRefusal.RelayOff, 0x04)
-    ∷ (supply.number_of supplyRefusal.Disabled, 0x05)
-    ∷ (supply.number_of supplyRefusal.OverLimit, 0x06)
-    ∷ (supply.number_of supplyRefusal.RelayBits, 0x0B)
-    ∷ (supply.number_of supplyRefusal.Unsettled, 0x0C)
-    ∷ (supply.number_of supplyRefusal.OutOfRange, 0x0D)
+    ∷ (supply.number_of supply_refusal.RelayOff, 0x04)
+    ∷ (supply.number_of supply_refusal.Disabled, 0x05)
+    ∷ (supply.number_of supply_refusal.OverLimit, 0x06)
+    ∷ (supply.number_of supply_refusal.RelayBits, 0x0B)
+    ∷ (supply.number_of supply_refusal.Unsettled, 0x0C)
+    ∷ (supply.number_of supply_refusal.OutOfRange, 0x0D)
     -- a frame not of 40 bytes; no room for a frame
     ∷ (frame.number_of NotForty, 17)
     ∷ (frame.number_of NoRoom, 18)
@@ -48,9 +48,9 @@ numbers =
     ∷ (block.number_of Hidden, 23)
     ∷ (block.number_of NotIfft, 24)
     -- a command's words: a setting too wide, too few words of room; words that are not one command
-    ∷ (wording.number_of wordingRefusal.TooWide, 25)
-    ∷ (wording.number_of wordingRefusal.NoRoom, 26)
-    ∷ (wording.number_of wordingRefusal.NotOne, 38)
+    ∷ (wording.number_of wording_refusal.TooWide, 25)
+    ∷ (wording.number_of wording_refusal.NoRoom, 26)
+    ∷ (wording.number_of wording_refusal.NotOne, 38)
     ∷ []
 
 abbrev pub Same : List (ℕ × ℕ) → Type 0

@@ -79,14 +79,14 @@ module _ (o : Outfit) where
   comes d (bytes f) = (o.slot d f).desk
   comes d miss = o.missed d
 
-  unfoldable pub allCome : Desk → List Came → Desk
-  allCome d [] = d
-  allCome d (c ∷ cs) = allCome (comes d c) cs
+  unfoldable pub all_come : Desk → List Came → Desk
+  all_come d [] = d
+  all_come d (c ∷ cs) = all_come (comes d c) cs
 
 -- functions that meet demands 1 and 2 answer all bytes as ours do, at every desk, and after any slots show what ours show: foreign frames too
 pub record HearsAsOurs (o : Outfit) : Type 0 where
   pub answers : (d : Desk) (f : List ℕ) → (o.slot d f).answer ≡ (slot_of d f).answer
-  pub shows : (cs : List Came) (item : Item) → o.look (allCome o o.fresh cs) item ≡ proved.look (allCome proved fresh_desk cs) item
+  pub shows : (cs : List Came) (item : Item) → o.look (all_come o o.fresh cs) item ≡ proved.look (all_come proved fresh_desk cs) item
 
 abbrev pub OneHearing : Type 0
 OneHearing = (o : Outfit) → Demand1For o → Demand2For o → HearsAsOurs o

@@ -253,8 +253,8 @@ unfolding is_plain
 small r b =
     let start = b.supply Start in
     let deflection = b.supply Deflection in
-    let startStepping = bit_small r.core.start.stepping in
-    let deflectionStepping = bit_small r.core.deflection.stepping in
+    let start_stepping = bit_small r.core.start.stepping in
+    let deflection_stepping = bit_small r.core.deflection.stepping in
     (omega arith, (omega arith, (omega arith, (omega arith, (omega arith, (omega arith, first_small r b))))))
 
 widths : (r : Rig) → Bounds r → (k : ℕ) → is_plain k ≡ true → held_at (held_of r) k < rem_of k
