@@ -3,48 +3,45 @@
 #![tactic(auto)]
 
 ghost use Rattle.std.specs.Prelude.{◌≡◌};
-ghost use Rattle.rig.specs.Words.{refused_of, settled_of, head_of, fresh_of};
+ghost use Rattle.rig.specs.Words.{nothing_pending, refused_of, settled_of, head_of, fresh_of};
 
-use judge::{Refusal, Verdict};
-use rig::{Answer, Faults, Kind, Reply, Rig, Taken};
+use judge::{Core, Refusal};
+use rig::{Answer, Faults, Kind, Pending, Reply, Rig, Taken};
+
+// No block waits: the one value to which a close and a drop return.
+pub fn nothing_pending() -> Option<Pending>
+    ensures { result ≡ nothing_pending }
+{
+    None
+}
 
 // The bookkeeping of every refusal. The count goes from 255 to 0.
 #[tactic(auto, unfolding(rig::specs::Words::refused_of))]
 pub fn refuse(rig: Rig, high: u8, number: u8) -> Rig
     ensures { result ≡ refused_of rig high number }
 {
-    let was = rig.faults;
-    let f = Faults {
+    let faults = Faults {
         error: number,
         last: high,
-        count: std::num::wrapping_add_u8(was.count, 1),
+        count: rig.faults.count.wrapping_add(1),
     };
-    let mut next = rig;
-    next.faults = f;
-    next
+    Rig { faults, ..rig }
 }
 
 // A verdict carried out; high is what a refusal leaves as the last invalid code.
 #[tactic(auto, unfolding(rig::specs::Words::settled_of))]
-pub fn settle(rig: Rig, high: u8, v: Verdict) -> Taken
-    ensures { result ≡ settled_of rig high v }
+pub fn settle(rig: Rig, high: u8, verdict: Result<Core, Refusal>) -> Taken
+    ensures { result ≡ settled_of rig high verdict }
 {
-    match v {
-        Verdict::Apply(c) => {
-            let mut next = rig;
-            next.core = c;
-            Taken {
-                rig: next,
-                reply: Reply::Plain(Answer::Accepted),
-            }
-        }
-        Verdict::Deny(why) => {
-            let next = refuse(rig, high, judge::number(why));
-            Taken {
-                rig: next,
-                reply: Reply::Plain(Answer::Refused(why)),
-            }
-        }
+    match verdict {
+        Ok(core) => Taken {
+            rig: Rig { core, ..rig },
+            reply: Reply::Plain(Answer::Accepted),
+        },
+        Err(why) => Taken {
+            rig: refuse(rig, high, judge::number(why)),
+            reply: Reply::Plain(Answer::Refused(why)),
+        },
     }
 }
 
@@ -53,18 +50,22 @@ pub fn settle(rig: Rig, high: u8, v: Verdict) -> Taken
 fn begin(rig: Rig, high: u8, n: u8) -> Taken
     ensures { result ≡ head_of rig high n }
 {
-    let long = 79 < n;
-    if long {
-        return settle(rig, high, Verdict::Deny(Refusal::WrongCount));
+    if 79 < n {
+        return settle(rig, high, Err(Refusal::WrongCount));
     }
-    let mut p = rig::nothing_pending();
-    p.waiting = true;
-    p.head = high;
-    p.n = n;
-    let mut next = rig;
-    next.pending = p;
+    let block = Pending {
+        head: high,
+        n,
+        got: 0,
+        first: 0,
+        second: 0,
+        check: 0,
+    };
     Taken {
-        rig: next,
+        rig: Rig {
+            pending: Some(block),
+            ..rig
+        },
         reply: Reply::Plain(Answer::Waiting),
     }
 }
@@ -75,12 +76,8 @@ pub fn fresh(rig: Rig, kind: Kind, high: u8, low: u8) -> Taken
     ensures { result ≡ fresh_of rig kind high low }
 {
     match kind {
-        Kind::Single => {
-            let core = rig.core;
-            settle(rig, high, single_words::single(core, high % 64, low))
-        }
+        Kind::Single => settle(rig, high, single_words::single(rig.core, high % 64, low)),
         Kind::Head => begin(rig, high, low),
-        Kind::Data => settle(rig, high, Verdict::Deny(Refusal::StrayWord)),
-        Kind::End => settle(rig, high, Verdict::Deny(Refusal::StrayWord)),
+        Kind::Data | Kind::End => settle(rig, high, Err(Refusal::StrayWord)),
     }
 }

@@ -1,5 +1,6 @@
 -- What was written into four words of room; and lines of words, one more at the end.
 -- Assumes nothing.
+use Rattle.std.specs.Prelude.{Ok, Err}
 use mathlib.Core.Path.{◌≡◌, refl, sym, ap, ◌∙◌, subst}
 use mathlib.Core.List.{List, [], ◌∷◌, ◌++◌, append_assoc, append-nil}
 use Prim.Native.Nat.{ℕ, zero, suc, ◌+◌, ◌*◌, ◌≤◌, ◌<◌}
@@ -14,8 +15,7 @@ use Rattle.text.specs.Page.{fitting}
 use Rattle.wording.specs.declared.Command.{Command}
 use Rattle.wording.specs.declared.Command.TheVariants.{Relay, Iel, HeadMask, Target, Limit, Mode, Stepping, Multiplexers, DirectionWindow, EnergyWindow}
 use Rattle.wording.specs.declared.Refusal.{Refusal}
-use Rattle.wording.specs.declared.Wrote.{Wrote}
-use Rattle.wording.specs.declared.Wrote.TheVariants.{Words, Refused}
+use Rattle.wording.specs.Shapes.{Wrote}
 use Rattle.wording.specs.Written.{fits, words_of, wrote_of, written_of}
 use Rattle.answering.specs.Answers.{hex_line, hex_lines, refused_line, order_lines}
 
@@ -34,8 +34,8 @@ at_most_four (EnergyWindow start stop) = omega arith
 
 -- what was written tells of the command: its words, or that a setting is too wide
 abbrev Told : Command → List ℕ → Wrote → Type 0
-Told c out (Words n) = (n ≤ 4) × (hex_lines (take n (written_of c out)) ≡ order_lines c)
-Told c out (Refused why) = refused_line why ≡ order_lines c
+Told c out (Ok n) = (n ≤ 4) × (hex_lines (take n (written_of c out)) ≡ order_lines c)
+Told c out (Err why) = refused_line why ≡ order_lines c
 
 told : (c : Command) (out : List ℕ) → length out ≡ 4 → Told c out (wrote_of c (length out))
 unfolding wrote_of written_of order_lines
@@ -48,10 +48,10 @@ told c out n =
     (λ f. rw f (rw f))
 
 module _ (c : Command) (out : List ℕ) (room : length out ≡ 4) where
-  pub words_told : (n : ℕ) → wrote_of c (length out) ≡ Words n → (n ≤ 4) × (hex_lines (take n (written_of c out)) ≡ order_lines c)
+  pub words_told : (n : ℕ) → wrote_of c (length out) ≡ Ok n → (n ≤ 4) × (hex_lines (take n (written_of c out)) ≡ order_lines c)
   words_told n e = subst (Told c out) e (told c out room)
 
-  pub refusal_told : (why : Refusal) → wrote_of c (length out) ≡ Refused why → refused_line why ≡ order_lines c
+  pub refusal_told : (why : Refusal) → wrote_of c (length out) ≡ Err why → refused_line why ≡ order_lines c
   refusal_told why e = subst (Told c out) e (told c out room)
 
 -- lines of words, with one more

@@ -1,6 +1,6 @@
 -- The answer to a typed line: a command's words in hex, one a line; what words mean, in plain words; a refusal's number; or that the line is not read.
 -- Assumes nothing.
-use Rattle.std.specs.Prelude.{ℕ, List, [], ◌∷◌, ◌++◌, leb, length, take}
+use Rattle.std.specs.Prelude.{ℕ, List, [], ◌∷◌, ◌++◌, leb, length, take, Ok, Err}
 use Rattle.base.specs.Pick.{pick}
 use Rattle.base.specs.Ascii.{ascii}
 use Rattle.text.specs.Digits.{hex_word}
@@ -11,8 +11,7 @@ use Rattle.cutting.specs.declared.Said.TheVariants.{Line, TooLong, Nothing}
 use Rattle.wording.specs.declared.Command.{Command}
 use Rattle.wording.specs.declared.Refusal.{Refusal}
 use Rattle.wording.specs.declared.Refusal.TheVariants.{TooWide}
-use Rattle.wording.specs.declared.Meant.{Meant}
-use Rattle.wording.specs.declared.Meant.TheVariants.{Is, Refused}
+use Rattle.wording.specs.Shapes.{Meant}
 use Rattle.wording.specs.Refusals.{number_of}
 use Rattle.wording.specs.Written.{fits, words_of}
 use Rattle.plain_words.specs.Plain.{plain_of}
@@ -34,8 +33,8 @@ refused_line why = ascii "refused " ++ decimal (number_of why) ++ ascii "\n"
 
 -- what words mean
 abbrev pub meant_line : Meant → List ℕ
-meant_line (Is c) = plain_of c ++ ascii "\n"
-meant_line (Refused why) = refused_line why
+meant_line (Ok c) = plain_of c ++ ascii "\n"
+meant_line (Err why) = refused_line why
 
 -- a command's words, or why there are none
 unfoldable pub order_lines : Command → List ℕ

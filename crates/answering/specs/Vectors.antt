@@ -1,6 +1,6 @@
 -- Answers, letter by letter.
 -- Assumes nothing.
-use Rattle.std.specs.Prelude.{◌≡◌, refl}
+use Rattle.std.specs.Prelude.{◌≡◌, refl, Ok, Err}
 use Rattle.base.specs.Ascii.{ascii}
 use Rattle.crc.specs.Crc.{shift, crc_from, crc_of}
 use Rattle.text.specs.Digits.{digit}
@@ -9,7 +9,6 @@ use Rattle.menu_names.specs.Names.{name_words}
 use Rattle.judge.specs.declared.Which.TheVariants.{Start, Deflection}
 use Rattle.wording.specs.declared.Command.TheVariants.{HeadMask, Target, Stepping, DirectionWindow, EnergyWindow}
 use Rattle.wording.specs.declared.Refusal.TheVariants.{NotOne}
-use Rattle.wording.specs.declared.Meant.TheVariants.{Is, Refused}
 use Rattle.plain_words.specs.Plain.{plain_of}
 use Rattle.asking.specs.declared.Asked.TheVariants.{Order, TooWide, Means}
 use Rattle.answering.specs.Answers.{refused_line, order_lines, answer_of}
@@ -24,7 +23,7 @@ pub start : answer_of (Order (Target Start 5)) ≡ ascii "2005\n"
 unfolding order_lines digit
 start = refl
 
-pub deflection : answer_of (Means (Is (Stepping Deflection 255))) ≡ ascii "deflection stepping 255\n"
+pub deflection : answer_of (Means (Ok (Stepping Deflection 255))) ≡ ascii "deflection stepping 255\n"
 unfolding plain_of name_words decimal digit
 deflection = refl
 
@@ -34,10 +33,10 @@ unfolding order_lines refused_line decimal digit
 wide = (refl, refl)
 
 -- the block of case c, told in plain words; words that are not one command
-pub direction : answer_of (Means (Is (DirectionWindow 3 19))) ≡ ascii "direction window 3 19\n"
+pub direction : answer_of (Means (Ok (DirectionWindow 3 19))) ≡ ascii "direction window 3 19\n"
 unfolding plain_of name_words decimal digit
 direction = refl
 
-pub not_one : answer_of (Means (Refused NotOne)) ≡ ascii "refused 38\n"
+pub not_one : answer_of (Means (Err NotOne)) ≡ ascii "refused 38\n"
 unfolding refused_line decimal digit
 not_one = refl

@@ -2,99 +2,82 @@
 // Keeps 02 (i): what the class gets for what it types.
 #![tactic(auto)]
 
-ghost use Rattle.std.specs.Prelude.{◌++◌, ◌+◌, ◌*◌, ◌≤◌, length};
+ghost use Rattle.std.specs.Prelude.{◌≡◌, ◌++◌, ◌+◌, ◌*◌, ◌≤◌, length};
 ghost use Rattle.base.specs.Ascii.{ascii};
-ghost use Rattle.text.specs.Page.{Puts, fitting};
+ghost use Rattle.text.specs.Page.{Puts, fitting, Gets, RoomFor};
 ghost use Rattle.plain_words.specs.Plain.{plain_of};
-ghost use Rattle.answering.specs.Answers.{hex_line, hex_lines, refused_line, meant_line, order_lines, answer_of, line_answer};
+ghost use Rattle.answering.specs.Answers.{hex_line, hex_lines, refused_line, order_lines, answer_of, line_answer};
 
 use asking::Asked;
 use cutting::{ROOM, Said};
-use wording::{Command, Meant, Refusal, Wrote};
+use text::Page;
+use wording::{Command, Refusal};
 
 // How long an answer gets at most.
 pub const PAGE: usize = 32;
 
-// A word in hex on a line of its own.
-#[tactic(auto, using(plain_words::proofs::Names::fitted))]
-fn put_line(word: u16, page: &mut [u8], at: usize) -> usize
-    requires { at + 5 ≤ length page.old }
-    ensures { Puts at (hex_line word) page.old result page.new }
+// A word in hex and the end of its line.
+fn hex_line(word: u16) -> [u8; 5]
+    ensures { result ≡ hex_line word }
 {
-    let digits = text::hex_word(word);
-    let line = [digits[0], digits[1], digits[2], digits[3], b'\n'];
-    text::put(&line, page, at)
+    let [a, b, c, d] = text::hex_word(word);
+    [a, b, c, d, b'\n']
 }
 
 // Words in hex, one a line.
-fn put_lines(words: &[u16], page: &mut [u8]) -> usize
-    requires { 5 * length words.now ≤ length page.old }
-    ensures { Puts 0 (hex_lines words.now) page.old result page.new }
+fn put_lines(words: &[u16], page: &mut Page)
+    requires { RoomFor (5 * length words.now) page.old }
+    ensures { Gets (hex_lines words.now) page.old page.new }
 {
-    let mut at: usize = 0;
-    let mut i: usize = 0;
-    while i < words.len() {
-        at = put_line(words[i], page, at);
-        i += 1;
+    for word in words {
+        page.put(&hex_line(*word));
     }
-    at
 }
 
-fn put_refused(why: Refusal, page: &mut [u8]) -> usize
-    requires { 32 ≤ length page.old }
-    ensures { Puts 0 (refused_line why) page.old result page.new × (result ≤ 32) }
+fn put_refused(why: Refusal, page: &mut Page)
+    requires { RoomFor 12 page.old }
+    ensures { Gets (refused_line why) page.old page.new × (page.new.at ≤ page.old.at + 12) }
 {
-    let number = wording::number(why);
-    let mut at = text::put(b"refused ", page, 0);
-    at = numerals::put_decimal(base::wide(number), page, at);
-    text::put(b"\n", page, at)
+    page.put(b"refused ");
+    numerals::put_decimal(u32::from(wording::number(why)), page);
+    page.put(b"\n");
 }
 
 // A command's words, or why there are none.
-fn put_order(c: Command, page: &mut [u8]) -> usize
-    requires { 32 ≤ length page.old }
-    ensures { Puts 0 (order_lines c) page.old result page.new × (result ≤ 32) }
+fn put_order(c: Command, page: &mut Page)
+    requires { RoomFor 20 page.old }
+    ensures { Gets (order_lines c) page.old page.new × (page.new.at ≤ page.old.at + 20) }
 {
     let mut words = [0u16; 4];
-    let wrote = word_writer::write(c, &mut words);
-    match wrote {
-        Wrote::Words(n) => put_lines(&words[..n], page),
-        Wrote::Refused(why) => put_refused(why, page),
+    match word_writer::write(c, &mut words) {
+        Ok(n) => put_lines(&words[..n], page),
+        Err(why) => put_refused(why, page),
     }
 }
 
 // A command in plain words, on a line.
-fn put_command(c: Command, page: &mut [u8]) -> usize
-    requires { 32 ≤ length page.old }
-    ensures { Puts 0 (plain_of c ++ ascii "\n") page.old result page.new × (result ≤ 32) }
+fn put_command(c: Command, page: &mut Page)
+    requires { RoomFor 29 page.old }
+    ensures { Gets (plain_of c ++ ascii "\n") page.old page.new × (page.new.at ≤ page.old.at + 29) }
 {
-    let at = plain_words::put_plain(c, page, 0);
-    text::put(b"\n", page, at)
+    plain_words::put_plain(c, page);
+    page.put(b"\n");
 }
 
-fn put_meant(m: Meant, page: &mut [u8]) -> usize
-    requires { 32 ≤ length page.old }
-    ensures { Puts 0 (meant_line m) page.old result page.new × (result ≤ 32) }
-{
-    match m {
-        Meant::Is(c) => put_command(c, page),
-        Meant::Refused(why) => put_refused(why, page),
-    }
-}
-
-fn put_asked(asked: Asked, page: &mut [u8]) -> usize
-    requires { 32 ≤ length page.old }
-    ensures { Puts 0 (answer_of asked) page.old result page.new × (result ≤ 32) }
+fn put_asked(asked: Asked, page: &mut Page)
+    requires { RoomFor 32 page.old }
+    ensures { Gets (answer_of asked) page.old page.new × (page.new.at ≤ page.old.at + 32) }
 {
     match asked {
         Asked::Order(c) => put_order(c, page),
         Asked::TooWide => put_refused(Refusal::TooWide, page),
-        Asked::Means(m) => put_meant(m, page),
-        Asked::NotRead => text::put(b"not read\n", page, 0),
+        Asked::Means(Ok(c)) => put_command(c, page),
+        Asked::Means(Err(why)) => put_refused(why, page),
+        Asked::NotRead => page.put(b"not read\n"),
     }
 }
 
-// The answer to what a line asks for, at the front of a page. Where the page has no room for the longest answer, nothing is put.
+// The answer to what a line asks for, at the front of a page: so a slice is lent, and no place with it. Where the page has no room for the longest answer, nothing is put.
 #[tactic(auto, using(plain_words::proofs::Names::fitted, text::proofs::Puts::left_out))]
 pub fn put_answer(asked: Asked, page: &mut [u8]) -> usize
     ensures { Puts 0 (fitting 32 0 page.old (answer_of asked)) page.old result page.new × (result ≤ 32) }
@@ -102,7 +85,9 @@ pub fn put_answer(asked: Asked, page: &mut [u8]) -> usize
     if page.len() < PAGE {
         return 0;
     }
-    put_asked(asked, page)
+    let mut page = Page { bytes: page, at: 0 };
+    put_asked(asked, &mut page);
+    page.at
 }
 
 // The answer to a line that a stream has brought: to one that is too long too, and none where there is no line.
@@ -110,14 +95,11 @@ pub fn put_answer(asked: Asked, page: &mut [u8]) -> usize
 pub fn put_reply(said: Said, line: &[u8; ROOM], page: &mut [u8]) -> usize
     ensures { Puts 0 (fitting 32 0 page.old (line_answer said line.now)) page.old result page.new × (result ≤ 32) }
 {
-    let whole: &[u8] = line;
     match said {
-        Said::Line(n) => {
-            if n <= whole.len() {
-                return put_answer(asking::read_line(&whole[..n]), page);
-            }
-            0
-        }
+        Said::Line(n) => match line.get(..n) {
+            Some(whole) => put_answer(asking::read_line(whole), page),
+            None => 0,
+        },
         Said::TooLong => put_answer(Asked::NotRead, page),
         Said::Nothing => 0,
     }

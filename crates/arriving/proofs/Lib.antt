@@ -1,3 +1,3 @@
 -- Single outcome.
 pub mod Single
-mod Rest
+mod Every

@@ -5,10 +5,10 @@ use contract.Lifetimes.{Lfts}
 use denote.Triple.Clauses.{AtExit}
 use borrow.Fn.Kinds.{Dens, ended_of}
 use Rattle.base.proofs.Single.{same}
-use Rattle.frame.specs.declared.Arrived.{Arrived}
+use Rattle.frame.specs.Shapes.{Came}
 use Rattle.arriving.proofs.arrival.Kinds as arrival-kinds
 use Rattle.arriving.proofs.arrival.Reads as arrival
 
-pub arrival_one : (κs : Lfts 1) (a : Dens κs arrival-kinds.ps) (e f : AtExit (ended_of 1 arrival-kinds.ps arrival-kinds.r) κs) (r q : Arrived)
+pub arrival_one : (κs : Lfts 1) (a : Dens κs arrival-kinds.ps) (e f : AtExit (ended_of 1 arrival-kinds.ps arrival-kinds.r) κs) (r q : Came)
     → arrival.Post κs a r e → arrival.Post κs a q f → r ≡ q
 arrival_one κs a e f r q m n = same m n

@@ -2,85 +2,64 @@
 // Keeps 02 (i): the class picks from a menu; a reader takes words back. A setting that no byte holds is too wide; a line that is neither is not read.
 #![tactic(auto)]
 
-ghost use Rattle.std.specs.Prelude.{◌≡◌, [], ◌-◌, length, get_or, drop};
+ghost use Rattle.std.specs.Prelude.{◌≡◌, [], length, get_or, drop, Some};
 ghost use Rattle.splitting.specs.Words.{words_of};
-ghost use Rattle.numerals.specs.declared.Word.TheVariants.{Value};
 ghost use Rattle.numerals.specs.Hex.{word_of};
 ghost use Rattle.menu_names.specs.Names.{name_words};
-ghost use Rattle.asking.specs.Asks.{setting_of, setting_in, ordered_of, order_of, four_hex, meant_of, hex_of, ask_of};
+ghost use Rattle.asking.specs.Asks.{bad_setting_of, setting_in, ordered_of, order_of, four_hex, meant_of, ask_of};
 
-use numerals::{Number, Word};
-use wording::{Command, Meant, Refusal};
+use menu_rows::Entry;
+use numerals::BadNumber;
+use wording::{Command, Refusal};
 
 // What a line asks for. TooWide: a setting that no byte holds.
+// Four answers of equal standing: a Result would put three of them into a second enum.
 #[derive(Clone, Copy)]
 pub enum Asked {
     Order(Command),
     TooWide,
-    Means(Meant),
+    Means(Result<Command, Refusal>),
     NotRead,
 }
 
-// A setting as it was typed.
+// Why what was typed is no setting.
 #[derive(Clone, Copy)]
-pub enum Setting {
-    Byte(u8),
+pub enum BadSetting {
     Wide,
     NoNumber,
 }
 
-fn typed(n: Number) -> Setting
-    ensures { result ≡ setting_of n }
-{
-    match n {
-        Number::Is(v) => {
-            if v < 256 {
-                return Setting::Byte(v as u8);
-            }
-            Setting::Wide
+impl From<BadNumber> for BadSetting {
+    ghost from_gives = { λ n s. s ≡ bad_setting_of n };
+
+    fn from(n: BadNumber) -> BadSetting {
+        match n {
+            BadNumber::NotANumber => BadSetting::NoNumber,
+            BadNumber::TooLarge => BadSetting::Wide,
         }
-        Number::NotANumber => Setting::NoNumber,
-        Number::TooLarge => Setting::Wide,
     }
 }
 
 // The setting that a word of the line spells, where there is to be one.
-fn setting_at(line: &[u8], k: usize, there: bool) -> Setting
+fn setting_at(line: &[u8], k: usize, there: bool) -> Result<u8, BadSetting>
     ensures { result ≡ setting_in there (get_or (words_of line.now) k []) }
 {
-    if there {
-        return typed(numerals::read_number(splitting::word(line, k)));
+    if !there {
+        return Ok(0);
     }
-    Setting::Byte(0)
+    let n = numerals::read_number(splitting::word(line, k))?;
+    u8::try_from(n).map_err(|_| BadSetting::Wide)
 }
 
 // The command of a row with two settings. What is no number is not read; then a setting too wide.
-fn ordered(row: usize, a: Setting, b: Setting) -> Asked
+fn ordered(row: usize, a: Result<u8, BadSetting>, b: Result<u8, BadSetting>) -> Asked
     ensures { result ≡ ordered_of row a b }
 {
-    match a {
-        Setting::Byte(x) => match b {
-            Setting::Byte(y) => Asked::Order(menu_rows::command(row, x, y)),
-            Setting::Wide => Asked::TooWide,
-            Setting::NoNumber => Asked::NotRead,
-        },
-        Setting::Wide => match b {
-            Setting::Byte(_) => Asked::TooWide,
-            Setting::Wide => Asked::TooWide,
-            Setting::NoNumber => Asked::NotRead,
-        },
-        Setting::NoNumber => Asked::NotRead,
+    match (a, b) {
+        (Ok(first), Ok(second)) => Asked::Order(menu_rows::command(Entry { row, first, second })),
+        (Err(BadSetting::NoNumber), _) | (_, Err(BadSetting::NoNumber)) => Asked::NotRead,
+        _ => Asked::TooWide,
     }
-}
-
-// How many words stand behind the name.
-fn behind(all: usize, named: usize) -> usize
-    ensures { result ≡ all - named }
-{
-    if all < named {
-        return 0;
-    }
-    all - named
 }
 
 // The command of a row, with the settings behind its name: as many as the row takes, or it is not read.
@@ -90,7 +69,7 @@ fn order(line: &[u8], row: usize) -> Asked
 {
     let named = menu_names::words_in(row);
     let wanted = menu_rows::settings(row);
-    if behind(splitting::count(line), named) != wanted {
+    if splitting::count(line).saturating_sub(named) != wanted {
         return Asked::NotRead;
     }
     let first = setting_at(line, named, 0 < wanted);
@@ -99,60 +78,39 @@ fn order(line: &[u8], row: usize) -> Asked
 }
 
 // Four words in hex, the first of which is read.
-fn four(a: u16, b: Word, c: Word, d: Word) -> Meant
-    ensures { result ≡ four_hex a b c d }
+fn four(line: &[u8], a: u16) -> Result<Command, Refusal>
+    ensures { result ≡ four_hex a (word_of (get_or (words_of line.now) 1 []))
+        (word_of (get_or (words_of line.now) 2 [])) (word_of (get_or (words_of line.now) 3 [])) }
 {
-    match b {
-        Word::Value(x) => match c {
-            Word::Value(y) => match d {
-                Word::Value(z) => word_reader::read(&[a, x, y, z]),
-                Word::NotAWord => Meant::Refused(Refusal::NotOne),
-            },
-            Word::NotAWord => Meant::Refused(Refusal::NotOne),
-        },
-        Word::NotAWord => Meant::Refused(Refusal::NotOne),
-    }
+    let b = numerals::read_word(splitting::word(line, 1)).ok_or(Refusal::NotOne)?;
+    let c = numerals::read_word(splitting::word(line, 2)).ok_or(Refusal::NotOne)?;
+    let d = numerals::read_word(splitting::word(line, 3)).ok_or(Refusal::NotOne)?;
+    word_reader::read(&[a, b, c, d])
 }
 
 // What a line of words in hex means, the first of which is read.
 #[tactic(auto, using(crate::proofs::Lines::one_word, crate::proofs::Lines::four_words, crate::proofs::Lines::other_words))]
-fn meant(line: &[u8], a: u16) -> Meant
-    requires { word_of (get_or (words_of line.now) 0 []) ≡ Value a }
+fn meant(line: &[u8], a: u16) -> Result<Command, Refusal>
+    requires { word_of (get_or (words_of line.now) 0 []) ≡ Some a }
     ensures { result ≡ meant_of (words_of line.now) }
 {
-    let words = splitting::count(line);
-    if words == 1 {
-        return word_reader::read(&[a]);
-    }
-    if words == 4 {
-        let b = numerals::read_word(splitting::word(line, 1));
-        let c = numerals::read_word(splitting::word(line, 2));
-        let d = numerals::read_word(splitting::word(line, 3));
-        return four(a, b, c, d);
-    }
-    Meant::Refused(Refusal::NotOne)
-}
-
-// A line that begins with a word in hex; any other is not read.
-#[tactic(auto, unfolding(crate::specs::Asks::hex_of))]
-fn hex(line: &[u8]) -> Asked
-    ensures { result ≡ hex_of (words_of line.now) }
-{
-    let first = numerals::read_word(splitting::word(line, 0));
-    match first {
-        Word::Value(a) => Asked::Means(meant(line, a)),
-        Word::NotAWord => Asked::NotRead,
+    match splitting::count(line) {
+        1 => word_reader::read(&[a]),
+        4 => four(line, a),
+        _ => Err(Refusal::NotOne),
     }
 }
 
-// What a line asks for.
-#[tactic(auto, unfolding(crate::specs::Asks::ask_of))]
+// What a line asks for: a row of the menu by its name, or what words in hex mean.
+#[tactic(auto, unfolding(crate::specs::Asks::ask_of, crate::specs::Asks::hex_of))]
 pub fn read_line(line: &[u8]) -> Asked
     ensures { result ≡ ask_of (words_of line.now) }
 {
-    let row = menu_names::find(splitting::word(line, 0), splitting::word(line, 1));
-    if row < menu_names::ROWS {
+    if let Some(row) = menu_names::find(splitting::word(line, 0), splitting::word(line, 1)) {
         return order(line, row);
     }
-    hex(line)
+    match numerals::read_word(splitting::word(line, 0)) {
+        Some(a) => Asked::Means(meant(line, a)),
+        None => Asked::NotRead,
+    }
 }

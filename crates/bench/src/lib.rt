@@ -25,49 +25,49 @@ pub struct Worded {
 pub fn fresh() -> Bench
     ensures { result ≡ fresh_bench }
 {
-    let rig = rig::start();
-    let desk = desk::fresh();
-    Bench { rig, desk }
+    Bench {
+        rig: rig::start(),
+        desk: desk::fresh(),
+    }
 }
 
 pub fn word(bench: Bench, word: u16) -> Worded
     ensures { result ≡ worded_of bench word }
 {
-    let was = bench.rig;
-    let desk = bench.desk;
-    let t = words::take(was, word);
-    let taken = t.rig;
-    let reply = t.reply;
+    let taken = words::take(bench.rig, word);
     Worded {
-        bench: Bench { rig: taken, desk },
-        reply,
+        bench: Bench {
+            rig: taken.rig,
+            ..bench
+        },
+        reply: taken.reply,
     }
 }
 
 pub fn spin(bench: Bench) -> Bench
     ensures { result ≡ spun_bench bench }
 {
-    let was = bench.rig;
-    let desk = bench.desk;
-    let spun = power::spin(was);
-    Bench { rig: spun, desk }
+    Bench {
+        rig: power::spin(bench.rig),
+        ..bench
+    }
 }
 
 pub fn set(bench: Bench, setting: PanelSetting) -> Bench
     ensures { result ≡ set_bench bench setting }
 {
-    let was = bench.rig;
-    let desk = bench.desk;
-    let turned = power::set(was, setting);
-    Bench { rig: turned, desk }
+    Bench {
+        rig: power::set(bench.rig, setting),
+        ..bench
+    }
 }
 
 // The desk hears nothing of a power cut.
 pub fn power_cut(bench: Bench) -> Bench
     ensures { result ≡ cut_bench bench }
 {
-    let was = bench.rig;
-    let desk = bench.desk;
-    let started = power::power_cut(was);
-    Bench { rig: started, desk }
+    Bench {
+        rig: power::power_cut(bench.rig),
+        ..bench
+    }
 }

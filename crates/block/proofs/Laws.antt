@@ -1,12 +1,13 @@
--- What the proofs of `locate` and of crate `placing` stand on: a law of tests in order; a row of G's tables has a length exactly where its kind
+-- What the proofs of `layout`, `locating` and `event` stand on: a law of tests in order; a row of G's tables has a length exactly where its kind
 -- has the part; and a part that is located is not empty and lies in its block. Assumes nothing.
+use Rattle.std.specs.Prelude.{Result, Ok, Err}
 use mathlib.Core.Path.{◌≡◌, refl, sym, ap, subst, ◌∙◌}
 use mathlib.Core.Bool.{Bool, true, false, not}
 use mathlib.Core.List.{List, [], ◌∷◌}
 use Prim.Native.Nat.{ℕ, zero, suc, ◌+◌, ◌≤◌, ◌<◌}
 use native.Mathlib.Omega.{arith}
-use borrow.Author.Tests.{eqb-true, eq-eqb, ne_eqb, le-leb}
-use lib.Dec.{T, eqb, ltb, leb, leb→le, ltb→lt, eqb→eq}
+use borrow.Author.Tests.{eqb-true, eq-eqb, le-leb}
+use lib.Dec.{T, eqb, ltb, leb, leb→le, ltb→lt}
 use lib.ListN.{length, get_or, length-take, length-drop}
 use Rattle.base.proofs.Cases.{split}
 use Rattle.base.proofs.Table.{both, both_left, both_right}
@@ -16,10 +17,10 @@ use Rattle.block.specs.declared.Refusal.TheVariants.{NoMarker}
 use Rattle.block.specs.declared.Kind.{Kind}
 use Rattle.block.specs.declared.Kind.TheVariants.{Nm, Bm1}
 use Rattle.block.specs.declared.Layout.{Layout}
-use Rattle.block.specs.declared.Layout.TheVariants.{Is, Bad}
+use Rattle.block.specs.declared.Place.{Place}
+use Rattle.block.specs.Shapes.{Found, at_place, laid_out}
 use Rattle.block.specs.declared.Part.{Part}
 use Rattle.block.specs.declared.Part.TheVariants.{Marker, Index, Descriptor1, Calibration, MSigns, Sgl0, DirectEvents, HSpct, ISpct, Sgl1, Sgl2, Sgl3, IPad, I3dd, Mtrx, Descriptor2, EPad, E3dd, M}
-use Rattle.block.specs.declared.Located.TheVariants.{At, Refused}
 use Rattle.block.specs.Refusals.{Tests, unless}
 use Rattle.block.specs.Kinds.{kinds, length_of, marker_of, second_at}
 use Rattle.block.specs.Tables.{parts, row_of, has, row_in}
@@ -50,21 +51,25 @@ holds : (x : Bool) → not x ≡ false → x ≡ true
 holds true e = refl
 holds false e = absurd (never e)
 
+-- what two equal answers hold is equal
+same_ok : {A : Type 0} → {x y : A} → ◌≡◌ {A = Result A Refusal} (Ok x) (Ok y) → x ≡ y
+same_ok e = cc
+
 -- what a layout tells of its block
-pub no_layout : (k : Kind) (d1 d2 : ℕ) (r : Refusal) → Bad r ≡ Is k d1 d2 → ⊥
+pub no_layout : (k : Kind) (d1 d2 : ℕ) (r : Refusal) → Err r ≡ laid_out k d1 d2 → ⊥
 no_layout k d1 d2 r e = let z : ◌≡◌ {A = ℕ} 0 1 = cc in omega arith
 
-pub layout_is_lem : (b : List ℕ) (k : Kind) (d1 d2 : ℕ) → layout_of b ≡ Is k d1 d2 → (length b ≡ length_of k) × (kind_of b ≡ k) × (first b ≡ d1)
+pub layout_is_lem : (b : List ℕ) (k : Kind) (d1 d2 : ℕ) → layout_of b ≡ laid_out k d1 d2 → (length b ≡ length_of k) × (kind_of b ≡ k) × (first b ≡ d1)
 unfolding layout_of
 layout_is_lem b k d1 d2 e =
-    let p = passed Bad (block_tests b) (Is (kind_of b) (first b) (second b (kind_of b))) (Is k d1 d2) (no_layout k d1 d2) e in
-    let f = p.1 in
+    let p = passed Err (block_tests b) (laid_out (kind_of b) (first b) (second b (kind_of b))) (laid_out k d1 d2) (no_layout k d1 d2) e in
     let l : length b ≡ length_of (kind_of b) = eqb-true _ _ (holds (eqb (length b) (length_of (kind_of b))) p.0.1.1.0) in
-    let g : kind_of b ≡ k = cc in
-    (l ∙ ap length_of g, g, cc)
+    let f = same_ok {A = Layout} p.1 in
+    let g = ap (λ (x : Layout). x.kind) f in
+    (l ∙ ap length_of g, g, ap (λ (x : Layout). x.d1) f)
 
 -- a block by its first bytes: no known marker; or a kind's, and then the rest is that kind's own
-pub unmarked : (b : List ℕ) → ltb (length b) 3 ≡ false → known b kinds ≡ false → Bad NoMarker ≡ layout_of b
+pub unmarked : (b : List ℕ) → ltb (length b) 3 ≡ false → known b kinds ≡ false → Err NoMarker ≡ layout_of b
 unfolding layout_of
 unmarked b s n = simp (s, n)
 
@@ -79,14 +84,14 @@ third b e f Nm t = (simp (e, f, t), simp (e, f, t))
 third b e f Bm1 t = (simp (e, f, t), simp (e, f, t))
 
 -- what follows a kind's marker, in a memory dump and else
-pub as_dump : (b : List ℕ) (k : Kind) → length b ≡ length_of k → dumped b ≡ true → Is k (first b) 0 ≡ as_kind b k
+pub as_dump : (b : List ℕ) (k : Kind) → length b ≡ length_of k → dumped b ≡ true → laid_out k (first b) 0 ≡ as_kind b k
 unfolding as_kind
 as_dump b k l d = simp (eq-eqb _ _ l, d)
 
 pub as_whole : (b : List ℕ) (k : Kind) (x : ℕ) → length b ≡ length_of k → dumped b ≡ false → inner b k ≡ true → x ≡ second_at k
-    → Is k (first b) (get_or b x 0) ≡ as_kind b k
+    → laid_out k (first b) (get_or b x 0) ≡ as_kind b k
 unfolding as_kind
-as_whole b k x l d i e = simp (eq-eqb _ _ l, d, i) (ap (λ (y : ℕ). Is k (first b) (get_or b y 0)) e)
+as_whole b k x l d i e = simp (eq-eqb _ _ l, d, i) (ap (λ (y : ℕ). laid_out k (first b) (get_or b y 0)) e)
 
 -- the descriptors stand in the block
 pub second_in : (k : Kind) → (4 < length_of k) × (second_at k < length_of k)
@@ -127,15 +132,6 @@ ranked M = refl
 pub every_part : (f : Part → Bool) → T (all_of f parts) → (p : Part) → T (f p)
 every_part f t p = subst (λ (q : Part). T (f q)) (ranked p) (all_at f parts t (both_left (f Marker) _ t) (row_of p))
 
--- a number that is none of the first so many is past them
-abbrev pub NoneOf : ℕ → ℕ → Type 0
-NoneOf zero n = Unit {0}
-NoneOf (suc k) n = NoneOf k n × (n ≡ k → ⊥)
-
-pub past : (k n : ℕ) → NoneOf k n → k ≤ n
-past zero n t = omega arith
-past (suc k) n t = let h = past k n t.0 in let ne = t.1 in omega arith
-
 -- a row of a kind ends in its block, and has the length 0 exactly where the kind lacks the part
 abbrev fits : Kind → Part → Bool
 fits k p = both (leb ((row_in k p).at + (row_in k p).length) (length_of k)) (pick (has k p) (ltb 0 (row_in k p).length) (eqb (row_in k p).length 0))
@@ -150,44 +146,37 @@ ends_in k p = leb→le _ _ (both_left (leb ((row_in k p).at + (row_in k p).lengt
 pub full : (k : Kind) (p : Part) → has k p ≡ true → 0 < (row_in k p).length
 full k p e = ltb→lt 0 (row_in k p).length (rw e at (both_right (leb ((row_in k p).at + (row_in k p).length) (length_of k)) _ (all_fit_lem k p)))
 
-pub lacking : (k : Kind) (p : Part) → eqb (row_in k p).length 0 ≡ not (has k p)
-lacking k p =
-    split (has k p)
-    (λ e. let h = full k p e in simp e (ne_eqb _ _ (λ (z : (row_in k p).length ≡ 0). omega arith)))
-    (λ e. let t : T (eqb (row_in k p).length 0) = rw e at (both_right (leb ((row_in k p).at + (row_in k p).length) (length_of k)) _ (all_fit_lem k p)) in
-    simp e (eq-eqb _ _ (eqb→eq (row_in k p).length 0 t)))
-
 -- what is located in a block: the block's layout, then the place there
 pub located_as : (b : List ℕ) (p : Part) → place_in (layout_of b) p ≡ locate_of b p
 unfolding locate_of layout_of
-located_as b p = through (λ (l : Layout). place_in l p) Bad (block_tests b) (Is (kind_of b) (first b) (second b (kind_of b)))
+located_as b p = through (λ (l : Found). place_in l p) Err (block_tests b) (laid_out (kind_of b) (first b) (second b (kind_of b)))
 
-pub located_seen : (b : List ℕ) (p : Part) (l m : Layout) → l ≡ layout_of b → l ≡ m → place_in m p ≡ locate_of b p
-located_seen b p l m e f = ap (λ (x : Layout). place_in x p) (sym f ∙ e) ∙ located_as b p
+pub unlocated : (b : List ℕ) (p : Part) (r : Refusal) → layout_of b ≡ Err r → locate_of b p ≡ Err r
+unlocated b p r e = sym (located_as b p) ∙ ap (λ (x : Found). place_in x p) e
 
-pub kind_is : (k x : Kind) (d1 d2 : ℕ) → k ≡ x → Is k d1 d2 ≡ Is x d1 d2
-kind_is k x d1 d2 e = ap (λ (y : Kind). Is y d1 d2) e
+pub located_by : (b : List ℕ) (p : Part) (l : Layout) → layout_of b ≡ Ok l → locate_of b p ≡ place_of l.kind l.d1 l.d2 p
+located_by b p l e = sym (located_as b p) ∙ ap (λ (x : Found). place_in x p) e
 
 -- what was found is the row's own place, shown, not empty, and in its block
-pub refused_at : (a n : ℕ) (r : Refusal) → Refused r ≡ At a n → ⊥
+pub refused_at : (a n : ℕ) (r : Refusal) → Err r ≡ at_place a n → ⊥
 refused_at a n r h = let z : ◌≡◌ {A = ℕ} 0 1 = cc in omega arith
 
-pub placed : (k : Kind) (d1 d2 : ℕ) (p : Part) (a n : ℕ) → place_of k d1 d2 p ≡ At a n
+pub placed : (k : Kind) (d1 d2 : ℕ) (p : Part) (a n : ℕ) → place_of k d1 d2 p ≡ at_place a n
     → (has k p ≡ true) × (hidden p d1 d2 ≡ false) × ((row_in k p).at ≡ a) × ((row_in k p).length ≡ n)
 unfolding place_of
 placed k d1 d2 p a n e =
-    let q = passed Refused (place_tests k d1 d2 p) (At (row_in k p).at (row_in k p).length) (At a n) (refused_at a n) e in
-    let f = q.1 in
-    (holds (has k p) q.0.0, q.0.1.0, cc, cc)
+    let q = passed Err (place_tests k d1 d2 p) (at_place (row_in k p).at (row_in k p).length) (at_place a n) (refused_at a n) e in
+    let f = same_ok {A = Place} q.1 in
+    (holds (has k p) q.0.0, q.0.1.0, ap (λ (x : Place). x.at) f, ap (λ (x : Place). x.len) f)
 
-pub located_is : (b : List ℕ) (p : Part) (a n : ℕ) → locate_of b p ≡ At a n
-    → (length b ≡ length_of (kind_of b)) × (place_of (kind_of b) (first b) (second b (kind_of b)) p ≡ At a n)
+pub located_is : (b : List ℕ) (p : Part) (a n : ℕ) → locate_of b p ≡ at_place a n
+    → (length b ≡ length_of (kind_of b)) × (place_of (kind_of b) (first b) (second b (kind_of b)) p ≡ at_place a n)
 unfolding locate_of
 located_is b p a n e =
-    let q = passed Refused (block_tests b) (place_of (kind_of b) (first b) (second b (kind_of b)) p) (At a n) (refused_at a n) e in
+    let q = passed Err (block_tests b) (place_of (kind_of b) (first b) (second b (kind_of b)) p) (at_place a n) (refused_at a n) e in
     (eqb-true _ _ (holds (eqb (length b) (length_of (kind_of b))) q.0.1.1.0), q.1)
 
-pub located_in : (b : List ℕ) (p : Part) (a n : ℕ) → locate_of b p ≡ At a n → (0 < n) × (a + n ≤ length b)
+pub located_in : (b : List ℕ) (p : Part) (a n : ℕ) → locate_of b p ≡ at_place a n → (0 < n) × (a + n ≤ length b)
 located_in b p a n e =
     let l = located_is b p a n e in
     let f = placed (kind_of b) (first b) (second b (kind_of b)) p a n l.1 in
@@ -196,12 +185,12 @@ located_in b p a n e =
     (omega (arith, f.3), omega (arith, f.2, f.3, l.0))
 
 -- so a part is as long as `locate` says, and it is empty exactly where `locate` refuses
-pub part_length : (b : List ℕ) (p : Part) (a n : ℕ) → locate_of b p ≡ At a n → (0 < n) × (length (part_of b p) ≡ n)
+pub part_length : (b : List ℕ) (p : Part) (a n : ℕ) → locate_of b p ≡ at_place a n → (0 < n) × (length (part_of b p) ≡ n)
 unfolding part_of
 part_length b p a n e =
     let i = located_in b p a n e in
     (i.0, rw e (simp (le-leb _ _ i.1, length-take, length-drop) (omega (arith, i.1))))
 
-pub part_none : (b : List ℕ) (p : Part) (r : Refusal) → locate_of b p ≡ Refused r → part_of b p ≡ []
+pub part_none : (b : List ℕ) (p : Part) (r : Refusal) → locate_of b p ≡ Err r → part_of b p ≡ []
 unfolding part_of
 part_none b p r e = rw e

@@ -1,5 +1,6 @@
 -- With descriptor 1 bit 2 set neither descriptor 2 nor the inner markers are looked at: what such a block answers goes by its
 -- length and its first five bytes alone. Assumes nothing.
+use Rattle.std.specs.Prelude.{Ok, Err}
 use mathlib.Core.Path.{◌≡◌, refl, ◌∙◌, ap}
 use mathlib.Core.Bool.{Bool, true, false, not}
 use mathlib.Core.List.{List, []}
@@ -14,8 +15,7 @@ use Rattle.base.specs.Pick.{pick}
 use Rattle.block.specs.declared.Kind.{Kind}
 use Rattle.block.specs.declared.Kind.TheVariants.{Nm, Bm1}
 use Rattle.block.specs.declared.Part.{Part}
-use Rattle.block.specs.declared.Located.{Located}
-use Rattle.block.specs.declared.Located.TheVariants.{At, Refused}
+use Rattle.block.specs.Shapes.{Located, at_place}
 use Rattle.block.specs.Tables.{among, row_in}
 use Rattle.block.specs.Layout.{marker, kind_of, bit, first, dumped, second}
 use Rattle.block.specs.Parts.{opening, hidden, locate_of, bytes_of, part_of}
@@ -36,7 +36,7 @@ all_low : (k : Kind) (p : Part) → T (low k p)
 all_low Nm p = every_part (low Nm) tt p
 all_low Bm1 p = every_part (low Bm1) tt p
 
-pub dumped_early : (b : List ℕ) (p : Part) (a n : ℕ) → dumped b ≡ true → locate_of b p ≡ At a n → a + n ≤ 5
+pub dumped_early : (b : List ℕ) (p : Part) (a n : ℕ) → dumped b ≡ true → locate_of b p ≡ at_place a n → a + n ≤ 5
 dumped_early b p a n d e =
     let k = kind_of b in
     let f = placed k (first b) (second b k) p a n (located_is b p a n e).1 in
@@ -63,9 +63,9 @@ module _ (b c : List ℕ) (n : length b ≡ length c) (d : dumped b ≡ true) wh
       let v : i < m = omega (arith, simp length-take at l) in
       rw (get_or-take m (drop a b) i 0 v, get_or-take m (drop a c) i 0 v, get_or-drop a b i 0, get_or-drop a c i 0) (h (a + i) (omega arith)))
 
-  same_bytes : ((k : ℕ) → k < 5 → get_or b k 0 ≡ get_or c k 0) → (l : Located) → ((a m : ℕ) → l ≡ At a m → a + m ≤ 5) → bytes_of b l ≡ bytes_of c l
-  same_bytes h (Refused r) s = refl
-  same_bytes h (At a m) s = rw n (ap (λ (l : List ℕ). pick (leb (a + m) (length c)) l []) (same_part h a m (s a m refl)))
+  same_bytes : ((k : ℕ) → k < 5 → get_or b k 0 ≡ get_or c k 0) → (l : Located) → ((a m : ℕ) → l ≡ at_place a m → a + m ≤ 5) → bytes_of b l ≡ bytes_of c l
+  same_bytes h (Err r) s = refl
+  same_bytes h (Ok x) s = rw n (ap (λ (l : List ℕ). pick (leb (x.at + x.len) (length c)) l []) (same_part h x.at x.len (s x.at x.len refl)))
 
   -- so blocks that differ at most there answer alike: the same place and the same bytes for every part
   pub unread_alike : ((k : ℕ) → T (not (unread k)) → get_or b k 0 ≡ get_or c k 0) → (p : Part) → (locate_of b p ≡ locate_of c p) × (part_of b p ≡ part_of c p)

@@ -1,12 +1,11 @@
 -- What a data block is (01, "Data blocks"; G 2.1): its kind, by marker and length, with its two content descriptors.
 -- Assumes nothing.
-use Rattle.std.specs.Prelude.{Bool, true, false, not, ◌&&◌, ◌||◌, List, [], ◌∷◌, ℕ, ◌+◌, ◌/◌, ◌%◌, ◌^◌, eqb, ltb, length, get_or}
+use Rattle.std.specs.Prelude.{Bool, true, false, not, ◌&&◌, ◌||◌, List, [], ◌∷◌, ℕ, ◌+◌, ◌/◌, ◌%◌, ◌^◌, eqb, ltb, length, get_or, Err}
 use Rattle.base.specs.Pick.{pick}
 use Rattle.block.specs.declared.Refusal.TheVariants.{NoMarker, WrongLength, InnerMarker}
 use Rattle.block.specs.declared.Kind.{Kind}
 use Rattle.block.specs.declared.Kind.TheVariants.{Nm}
-use Rattle.block.specs.declared.Layout.{Layout}
-use Rattle.block.specs.declared.Layout.TheVariants.{Is, Bad}
+use Rattle.block.specs.Shapes.{Found, laid_out}
 use Rattle.block.specs.Refusals.{Tests, unless}
 use Rattle.block.specs.Kinds.{kinds, length_of, marker_of, inner_of, second_at}
 
@@ -64,5 +63,5 @@ kind_tests b k =
 abbrev pub block_tests : List ℕ → Tests
 block_tests b = (ltb (length b) 3, WrongLength) ∷ (not (known b kinds), NoMarker) ∷ kind_tests b (kind_of b)
 
-unfoldable pub layout_of : List ℕ → Layout
-layout_of b = unless Bad (block_tests b) (Is (kind_of b) (first b) (second b (kind_of b)))
+unfoldable pub layout_of : List ℕ → Found
+layout_of b = unless Err (block_tests b) (laid_out (kind_of b) (first b) (second b (kind_of b)))

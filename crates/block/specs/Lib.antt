@@ -1,4 +1,5 @@
 -- What the promises of this crate say: Refusals, Kinds, Tables, Layout, Parts. Cover and Order state laws; Steps is for private functions alone.
+pub mod Shapes
 pub mod Refusals
 pub mod Kinds
 pub mod Tables

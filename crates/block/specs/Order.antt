@@ -1,10 +1,9 @@
 -- The refusals of a part in 01's order: 20 (under 3), 19, 20, 21, 22, 23. And what a memory dump is not asked for.
 -- Assumes nothing.
-use Rattle.std.specs.Prelude.{Bool, false, ◌||◌, List, [], ◌∷◌, ◌++◌, ℕ, ◌+◌, eqb}
+use Rattle.std.specs.Prelude.{Bool, false, ◌||◌, List, [], ◌∷◌, ◌++◌, ℕ, ◌+◌, eqb, Ok, Err}
 use Rattle.block.specs.declared.Kind.{Kind}
 use Rattle.block.specs.declared.Part.{Part}
-use Rattle.block.specs.declared.Located.{Located}
-use Rattle.block.specs.declared.Located.TheVariants.{At, Refused}
+use Rattle.block.specs.Shapes.{Located}
 use Rattle.block.specs.Refusals.{Tests, number_of}
 use Rattle.block.specs.Kinds.{kinds, inner_of, second_at}
 use Rattle.block.specs.Layout.{kind_of, first, second, block_tests}
@@ -12,8 +11,8 @@ use Rattle.block.specs.Parts.{place_tests}
 
 -- the number of an answer: 0 where a part was located
 abbrev pub number_in : Located → ℕ
-number_in (At at n) = 0
-number_in (Refused r) = number_of r
+number_in (Ok x) = 0
+number_in (Err r) = number_of r
 
 -- what is asked of a part, after what is asked of the block
 abbrev pub part_tests : List ℕ → Part → Tests

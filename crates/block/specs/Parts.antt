@@ -1,13 +1,12 @@
 -- The parts of a data block (01, "Data blocks"): where they stand, and which of them test data hide.
 -- Assumes nothing.
-use Rattle.std.specs.Prelude.{Bool, not, ◌&&◌, ◌||◌, List, [], ◌∷◌, ◌++◌, ℕ, ◌+◌, leb, length, take, drop}
+use Rattle.std.specs.Prelude.{Bool, not, ◌&&◌, ◌||◌, List, [], ◌∷◌, ◌++◌, ℕ, ◌+◌, leb, length, take, drop, Ok, Err}
 use Rattle.base.specs.Pick.{pick}
 use Rattle.block.specs.declared.Refusal.TheVariants.{Beyond, Hidden}
 use Rattle.block.specs.declared.Kind.{Kind}
 use Rattle.block.specs.declared.Part.{Part}
 use Rattle.block.specs.declared.Part.TheVariants.{Marker, Index, Descriptor1, Descriptor2, EPad, E3dd, M}
-use Rattle.block.specs.declared.Located.{Located}
-use Rattle.block.specs.declared.Located.TheVariants.{At, Refused}
+use Rattle.block.specs.Shapes.{Located, at_place}
 use Rattle.block.specs.Refusals.{Tests, unless}
 use Rattle.block.specs.Tables.{among, has, row_in}
 use Rattle.block.specs.Layout.{bit, kind_of, first, second, block_tests}
@@ -32,16 +31,16 @@ abbrev pub place_tests : Kind → ℕ → ℕ → Part → Tests
 place_tests k d1 d2 p = (not (has k p), Beyond) ∷ (hidden p d1 d2, Hidden) ∷ []
 
 unfoldable pub place_of : Kind → ℕ → ℕ → Part → Located
-place_of k d1 d2 p = unless Refused (place_tests k d1 d2 p) (At (row_in k p).at (row_in k p).length)
+place_of k d1 d2 p = unless Err (place_tests k d1 d2 p) (at_place (row_in k p).at (row_in k p).length)
 
 -- in a block, which is asked first
 unfoldable pub locate_of : List ℕ → Part → Located
-locate_of b p = unless Refused (block_tests b) (place_of (kind_of b) (first b) (second b (kind_of b)) p)
+locate_of b p = unless Err (block_tests b) (place_of (kind_of b) (first b) (second b (kind_of b)) p)
 
 -- the bytes at a place: none where it is a refusal, or goes past the end
 abbrev pub bytes_of : List ℕ → Located → List ℕ
-bytes_of b (At at n) = pick (leb (at + n) (length b)) (take n (drop at b)) []
-bytes_of b (Refused r) = []
+bytes_of b (Ok x) = pick (leb (x.at + x.len) (length b)) (take x.len (drop x.at b)) []
+bytes_of b (Err r) = []
 
 unfoldable pub part_of : List ℕ → Part → List ℕ
 part_of b p = bytes_of b (locate_of b p)

@@ -7,7 +7,7 @@ ghost use Rattle.block.specs.Refusals.{number_of};
 ghost use Rattle.block.specs.Kinds.{length_of, marker_of};
 
 // Why nothing is handed back: 19 to 24. The last is of the IFFT block alone.
-#[derive(Clone, Copy)]
+#[derive(Clone, Copy, PartialEq, Eq)]
 pub enum Refusal {
     NoMarker,
     WrongLength,
@@ -18,7 +18,7 @@ pub enum Refusal {
 }
 
 // The kinds of blocks.
-#[derive(Clone, Copy)]
+#[derive(Clone, Copy, PartialEq, Eq)]
 pub enum Kind {
     Nm,
     Bm1,
@@ -26,9 +26,10 @@ pub enum Kind {
 
 // What a block is, with its two content descriptors. The second counts as 0 where it is not looked at.
 #[derive(Clone, Copy)]
-pub enum Layout {
-    Is(Kind, u8, u8),
-    Bad(Refusal),
+pub struct Layout {
+    pub kind: Kind,
+    pub d1: u8,
+    pub d2: u8,
 }
 
 // The parts of G's position tables, in the order of NM's.
@@ -55,11 +56,11 @@ pub enum Part {
     M,
 }
 
-// A part's first byte and its length, or why it is refused.
+// Where a part stands: its first byte and its length.
 #[derive(Clone, Copy)]
-pub enum Located {
-    At(usize, usize),
-    Refused(Refusal),
+pub struct Place {
+    pub at: usize,
+    pub len: usize,
 }
 
 // The third byte of a kind's marker, after 14 6F.

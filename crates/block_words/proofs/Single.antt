@@ -4,7 +4,7 @@ use mathlib.Core.Path.{◌≡◌}
 use Prim.Native.Nat.{ℕ}
 use Rattle.base.proofs.Single.{same}
 use Rattle.judge.specs.declared.Core.{Core}
-use Rattle.judge.specs.declared.Verdict.{Verdict}
+use Rattle.judge.specs.Shapes.{Verdict}
 use Rattle.block_words.proofs.block.Reads as block
 
 pub block_one : (c : Core) (code n x y : ℕ) (v w : Verdict)

@@ -6,89 +6,75 @@ ghost use Rattle.std.specs.Prelude.{◌≡◌, get_or};
 ghost use Rattle.frame.specs.Items.{row_of};
 ghost use Rattle.frame.specs.Read.{read_of};
 ghost use Rattle.cell.specs.Cell.{blank, cell_after};
-ghost use Rattle.half.specs.Half.{spread_of};
 ghost use Rattle.cells.specs.Cells.{cells_after};
 ghost use Rattle.bringing.specs.Bringing.{plain_of, told_by};
 
 use base::Frames;
-use cell::{Cell, Shown};
-use frame::{ITEMS, Item, Reading};
-use half::Half;
+use cell::{Cell, Known};
+use frame::{ITEMS, Item, Turn};
+use half::{Part, spread};
 
-fn plain(r: Reading) -> Shown
-    ensures { result ≡ plain_of r }
+// What is read of a plain item, as old as its frame.
+fn plain(read: Option<u32>) -> Option<Known>
+    ensures { result ≡ plain_of read }
 {
-    match r {
-        Reading::Nothing => Shown::Unknown,
-        Reading::Value(v) => Shown::Known(v, Frames(0)),
-    }
+    read.map(|value| Known {
+        value,
+        age: Frames(0),
+    })
+}
+
+// An item's cell after a slot that by itself shows this of it.
+fn told(old: [Cell; ITEMS], item: Item, shown: Option<Known>) -> Cell
+    ensures { result ≡ cell_after shown (get_or old (row_of item) blank) }
+{
+    cell::next(shown, cells::cell_at(old, frame::row_of(item)))
 }
 
 // A plain item's cell after bytes that came.
-fn plain_cell(old: [Cell; ITEMS], item: Item, frame: &[u8]) -> Cell
-    ensures { result ≡ cell_after (plain_of (read_of frame.now (row_of item))) (get_or old (row_of item) blank) }
+fn plain_cell(old: [Cell; ITEMS], item: Item, slot: &[u8]) -> Cell
+    ensures { result ≡ cell_after (plain_of (read_of slot.now (row_of item))) (get_or old (row_of item) blank) }
 {
-    cell::next(
-        plain(reading::read(frame, item)),
-        cells::cell_at(old, frame::row_of(item)),
-    )
-}
-
-// A spread number's cell after bytes that came with index i and byte 39 b.
-fn spread_cell(
-    old: [Cell; ITEMS],
-    item: Item,
-    half: Half,
-    i: u8,
-    b: u8,
-    last: u8,
-    age: Frames,
-) -> Cell
-    ensures { result ≡ cell_after (spread_of half i b last age) (get_or old (row_of item) blank) }
-{
-    cell::next(
-        half::spread(half, i, b, last, age),
-        cells::cell_at(old, frame::row_of(item)),
-    )
+    told(old, item, plain(reading::read(slot, item)))
 }
 
 // The cells after a whole frame, row by row: each is written once, and no table is built.
-pub fn cells_after(old: [Cell; ITEMS], frame: &[u8], half: Half, i: u8, b: u8) -> [Cell; ITEMS]
-    ensures { result ≡ cells_after (told_by half frame.now i b) old }
+pub fn cells_after(old: [Cell; ITEMS], slot: &[u8], half: Option<Part>, turn: Turn) -> [Cell; ITEMS]
+    ensures { result ≡ cells_after (told_by half slot.now turn.index turn.byte39) old }
 {
     [
-        plain_cell(old, Item::Parallel, frame),
-        plain_cell(old, Item::Multiplexer1, frame),
-        plain_cell(old, Item::Multiplexer2, frame),
-        plain_cell(old, Item::Multiplexer3, frame),
-        plain_cell(old, Item::ErrorCode, frame),
-        plain_cell(old, Item::DirectionStop, frame),
-        plain_cell(old, Item::DirectionStart, frame),
-        plain_cell(old, Item::EnergyStop, frame),
-        plain_cell(old, Item::EnergyStart, frame),
-        plain_cell(old, Item::LastInvalidCode, frame),
-        plain_cell(old, Item::IelEnable, frame),
-        plain_cell(old, Item::ReducedCounter, frame),
-        plain_cell(old, Item::Bias, frame),
-        plain_cell(old, Item::Relay, frame),
-        plain_cell(old, Item::Ground, frame),
-        plain_cell(old, Item::StopStepping, frame),
-        plain_cell(old, Item::StopLimit, frame),
-        plain_cell(old, Item::StopLevel, frame),
-        plain_cell(old, Item::Flap1, frame),
-        plain_cell(old, Item::Flap2, frame),
-        plain_cell(old, Item::Flap3, frame),
-        plain_cell(old, Item::IelClock, frame),
-        plain_cell(old, Item::LastCheck, frame),
-        plain_cell(old, Item::InvalidCount, frame),
-        plain_cell(old, Item::HeadMask, frame),
-        spread_cell(old, Item::LongCounter, half, i, b, 3, Frames(3)),
-        spread_cell(old, Item::FreeTime, half, i, b, 28, Frames(1)),
-        plain_cell(old, Item::StartStepping, frame),
-        plain_cell(old, Item::StartLimit, frame),
-        plain_cell(old, Item::StartLevel, frame),
-        plain_cell(old, Item::DeflectionStepping, frame),
-        plain_cell(old, Item::DeflectionLimit, frame),
-        plain_cell(old, Item::DeflectionLevel, frame),
+        plain_cell(old, Item::Parallel, slot),
+        plain_cell(old, Item::Multiplexer1, slot),
+        plain_cell(old, Item::Multiplexer2, slot),
+        plain_cell(old, Item::Multiplexer3, slot),
+        plain_cell(old, Item::ErrorCode, slot),
+        plain_cell(old, Item::DirectionStop, slot),
+        plain_cell(old, Item::DirectionStart, slot),
+        plain_cell(old, Item::EnergyStop, slot),
+        plain_cell(old, Item::EnergyStart, slot),
+        plain_cell(old, Item::LastInvalidCode, slot),
+        plain_cell(old, Item::IelEnable, slot),
+        plain_cell(old, Item::ReducedCounter, slot),
+        plain_cell(old, Item::Bias, slot),
+        plain_cell(old, Item::Relay, slot),
+        plain_cell(old, Item::Ground, slot),
+        plain_cell(old, Item::StopStepping, slot),
+        plain_cell(old, Item::StopLimit, slot),
+        plain_cell(old, Item::StopLevel, slot),
+        plain_cell(old, Item::Flap1, slot),
+        plain_cell(old, Item::Flap2, slot),
+        plain_cell(old, Item::Flap3, slot),
+        plain_cell(old, Item::IelClock, slot),
+        plain_cell(old, Item::LastCheck, slot),
+        plain_cell(old, Item::InvalidCount, slot),
+        plain_cell(old, Item::HeadMask, slot),
+        told(old, Item::LongCounter, spread(half, turn, 3, Frames(3))),
+        told(old, Item::FreeTime, spread(half, turn, 28, Frames(1))),
+        plain_cell(old, Item::StartStepping, slot),
+        plain_cell(old, Item::StartLimit, slot),
+        plain_cell(old, Item::StartLevel, slot),
+        plain_cell(old, Item::DeflectionStepping, slot),
+        plain_cell(old, Item::DeflectionLimit, slot),
+        plain_cell(old, Item::DeflectionLevel, slot),
     ]
 }

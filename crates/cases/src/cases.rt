@@ -1,204 +1,129 @@
 // 01's cases a to l, run by the compiled code.
 // Keeps 01 "Bench cases", with 02 (ii)'s spin before the frame in a and c; crate `demands` proves them of the definitions.
+ghost use Rattle.std.specs.Prelude.{◌<◌};
+
 use bench::Bench;
-use event::Itemed;
 use std::io;
 
-// A word sent so many times, with no line.
-fn send_quietly(bench: Bench, word: u16, times: u32) -> Bench {
-    let mut b = bench;
-    for _ in 0..times {
-        b = bench::word(b, word).bench;
-    }
-    b
-}
-
-fn title(rt: &impl Print, letter: u8) -> io::Result<()> {
-    printing::text(rt, b"case ")?;
-    printing::text(rt, &[letter])?;
-    printing::end(rt)
-}
-
 // A fresh bench, and the block of a case.
-fn block(
-    rt: &impl Print,
-    letter: u8,
-    head: u16,
-    first: u16,
-    second: u16,
-    end: u16,
-) -> io::Result<Bench> {
-    title(rt, letter)?;
-    steps::block(rt, bench::fresh(), head, first, second, end)
+fn block(rt: &impl Print, letter: char, words: [u16; 4]) -> io::Result<Bench> {
+    println!(rt; "case {letter}")?;
+    steps::block(rt, bench::fresh(), words)
 }
 
 // A fresh bench, and the one word of a case.
-fn single(rt: &impl Print, letter: u8, word: u16) -> io::Result<Bench> {
-    title(rt, letter)?;
+fn single(rt: &impl Print, letter: char, word: u16) -> io::Result<Bench> {
+    println!(rt; "case {letter}")?;
     steps::send(rt, bench::fresh(), word)
 }
 
 // Two words, of which only the answers are shown.
-fn two(rt: &impl Print, letter: u8, first: u16, second: u16) -> io::Result<()> {
+fn two(rt: &impl Print, letter: char, first: u16, second: u16) -> io::Result<()> {
     let worded = single(rt, letter, first)?;
     steps::send(rt, worded, second)?;
     Ok(())
 }
 
-fn show(rt: &impl Print, name: &[u8], value: u8) -> io::Result<()> {
-    printing::text(rt, name)?;
-    printing::byte(rt, value)?;
-    printing::end(rt)
-}
-
-fn show_small(rt: &impl Print, name: &[u8], value: u8) -> io::Result<()> {
-    printing::text(rt, name)?;
-    printing::small(rt, value)?;
-    printing::end(rt)
-}
-
-fn say_frame_byte(rt: &impl Print, index: u8, k: usize, value: u8) -> io::Result<()> {
-    printing::text(rt, b"frame ")?;
-    printing::small(rt, index)?;
-    printing::text(rt, b" byte ")?;
-    printing::number(rt, k as u64)?;
-    printing::text(rt, b" is ")?;
-    printing::byte(rt, value)?;
-    printing::end(rt)
-}
-
 // A byte of the next frame.
-fn show_frame_byte(rt: &impl Print, bench: Bench, k: usize) -> io::Result<()> {
+fn show_frame_byte(rt: &impl Print, bench: Bench, k: usize) -> io::Result<()>
+    requires { k < 40 }
+{
     let mut f = [0u8; 40];
     slots::build(bench, &mut f, 0);
-    if k < 40 {
-        say_frame_byte(rt, f[0], k, f[k])?;
-    }
-    Ok(())
+    println!(rt; "frame {} byte {k} is {:02X}h", f[0], f[k])
 }
 
 fn energy_window(rt: &impl Print) -> io::Result<()> {
-    let ordered = block(rt, b'a', 0x6402, 0xA401, 0xA400, 0xE415)?;
+    let ordered = block(rt, 'a', [0x6402, 0xA401, 0xA400, 0xE415])?;
     let a = steps::spins(rt, ordered, 1)?;
     show_frame_byte(rt, a, 10)
 }
 
 fn wrong_check(rt: &impl Print) -> io::Result<()> {
-    let b = block(rt, b'b', 0x6402, 0xA401, 0xA400, 0xE407)?;
-    show(rt, b"last check ", b.rig.check)
+    let b = block(rt, 'b', [0x6402, 0xA401, 0xA400, 0xE407])?;
+    println!(rt; "last check {:02X}h", b.rig.check)
 }
 
 fn direction_window(rt: &impl Print) -> io::Result<()> {
-    let ordered = block(rt, b'c', 0x6302, 0xA303, 0xA313, 0xE346)?;
+    let ordered = block(rt, 'c', [0x6302, 0xA303, 0xA313, 0xE346])?;
     let c = steps::spins(rt, ordered, 1)?;
     show_frame_byte(rt, c, 8)?;
     show_frame_byte(rt, c, 9)
 }
 
 fn limit(rt: &impl Print) -> io::Result<()> {
-    let g = single(rt, b'g', 0x29FA)?;
-    show_small(rt, b"limit ", g.rig.core.stop.limit)
+    let g = single(rt, 'g', 0x29FA)?;
+    println!(rt; "limit {}", g.rig.core.stop.limit)
 }
 
 fn show_count(rt: &impl Print, bench: Bench) -> io::Result<()> {
-    show_small(rt, b"invalid count ", bench.rig.faults.count)
+    println!(rt; "invalid count {}", bench.rig.faults.count)
 }
 
+// 255 refusals, with no line, and one more.
 fn count(rt: &impl Print) -> io::Result<()> {
-    title(rt, b'h')?;
-    let full = send_quietly(bench::fresh(), 0x0800, 255);
+    println!(rt; "case h")?;
+    let full = (0..255).fold(bench::fresh(), |b, _| bench::word(b, 0x0800).bench);
     show_count(rt, full)?;
     show_count(rt, steps::send(rt, full, 0x0800)?)
 }
 
-// The size of a count.
-fn size(rt: &impl Print, n: f64) -> io::Result<()> {
-    if n > -1.0 {
-        if n < 18446744073709551616.0 {
-            printing::number(rt, std::num::saturating_f64_to_u64(n))?;
-        }
-    }
-    Ok(())
-}
-
 // Volts as a count of 256ths, which the product with 256 leaves exact; the sign is that of the float, also at 0.
-fn volts(rt: &impl Print, name: &[u8], raw: u8, x: f64) -> io::Result<()> {
-    printing::text(rt, name)?;
-    printing::byte(rt, raw)?;
-    if 1.0 / x > 0.0 {
-        printing::text(rt, b" is +")?;
-        size(rt, x * 256.0)?;
-    } else {
-        printing::text(rt, b" is -")?;
-        size(rt, -(x * 256.0))?;
-    }
-    printing::text(rt, b"/256 V\n")
+// The sign by 1/x, since std's `is_sign_negative` asks for a proof that x is no NaN; the count by std's saturating function, since `as` asks for one.
+fn volts(rt: &impl Print, name: &str, raw: u8, x: f64) -> io::Result<()> {
+    let sign = if 1.0 / x > 0.0 { '+' } else { '-' };
+    let size = std::num::saturating_f64_to_u64((x * 256.0).abs());
+    println!(rt; "{name} {raw:02X}h is {sign}{size}/256 V")
 }
 
 // The sheet of two equal readings.
 fn reading(rt: &impl Print, raw: u8) -> io::Result<()> {
     let sheet = volts::sheet_of(raw, raw);
-    volts(rt, b"bias ", raw, sheet.bias)?;
-    volts(rt, b"ground ", raw, sheet.ground)
+    volts(rt, "bias", raw, sheet.bias)?;
+    volts(rt, "ground", raw, sheet.ground)
 }
 
 fn readings(rt: &impl Print) -> io::Result<()> {
-    title(rt, b'i')?;
+    println!(rt; "case i")?;
     reading(rt, 0x00)?;
     reading(rt, 0x80)?;
     reading(rt, 0xFF)
 }
 
 fn show_item(rt: &impl Print, b: &[u8], n: usize) -> io::Result<()> {
-    printing::text(rt, b"item ")?;
-    printing::number(rt, n as u64)?;
+    print!(rt; "item {n} ")?;
     match ifft::ifft_item(b, n) {
-        Itemed::Is(item) => {
-            printing::text(rt, b" second word ")?;
-            printing::word(rt, item.second)?;
-            if item.good {
-                printing::text(rt, b"h good\n")
-            } else {
-                printing::text(rt, b"h bad\n")
-            }
+        Ok(item) => {
+            let state = if item.good { "good" } else { "bad" };
+            println!(rt; "second word {:04X}h {state}", item.second)
         }
-        Itemed::Refused(why) => {
-            printing::text(rt, b" refused ")?;
-            printing::small(rt, block::number(why))?;
-            printing::end(rt)
-        }
+        Err(why) => println!(rt; "refused {}", block::number(why)),
     }
 }
 
-// An NM block whose IFFT block has two matrix items.
+// An NM block whose IFFT block has two matrix items; the third is beyond the last.
 fn items(rt: &impl Print) -> io::Result<()> {
-    title(rt, b'l')?;
+    println!(rt; "case l")?;
     let mut b = [0u8; 512];
-    b[0] = 0x14;
-    b[1] = 0x6F;
-    b[2] = 0x2E;
-    b[4] = 0x01;
-    b[5] = 6;
-    b[6] = 2;
-    b[0x22] = 0x80;
-    b[0x23] = 0x04;
-    b[0x26] = 0x80;
-    show_item(rt, &b, 0)?;
-    show_item(rt, &b, 1)?;
-    show_item(rt, &b, 2)
+    b[..7].copy_from_slice(&[0x14, 0x6F, 0x2E, 0, 0x01, 6, 2]);
+    b[0x20..0x28].copy_from_slice(&[0, 0, 0x80, 0x04, 0, 0, 0x80, 0]);
+    for n in [0, 1, 2] {
+        show_item(rt, &b, n)?;
+    }
+    Ok(())
 }
 
 pub(crate) fn run(rt: &impl Print) -> io::Result<()> {
     energy_window(rt)?;
     wrong_check(rt)?;
     direction_window(rt)?;
-    single(rt, b'd', 0x0822)?;
-    single(rt, b'e', 0x2805)?;
-    two(rt, b'f', 0x0802, 0x2805)?;
+    single(rt, 'd', 0x0822)?;
+    single(rt, 'e', 0x2805)?;
+    two(rt, 'f', 0x0802, 0x2805)?;
     limit(rt)?;
     count(rt)?;
     readings(rt)?;
-    two(rt, b'j', 0x6402, 0x0802)?;
-    two(rt, b'k', 0x4450, 0x444F)?;
+    two(rt, 'j', 0x6402, 0x0802)?;
+    two(rt, 'k', 0x4450, 0x444F)?;
     items(rt)
 }

@@ -3,25 +3,22 @@
 use std::io;
 
 fn one(rt: &impl Print, s: &[u8]) -> io::Result<()> {
-    printing::text(rt, b"check of")?;
+    print!(rt; "check of")?;
     printing::bytes(rt, s)?;
-    printing::text(rt, b" is ")?;
-    printing::byte(rt, crc::check_of(s))?;
-    printing::end(rt)
+    println!(rt; " is {:02X}h", crc::check_of(s))
 }
 
 pub(crate) fn run(rt: &impl Print) -> io::Result<()> {
-    printing::text(rt, b"the check\n")?;
+    println!(rt; "the check")?;
     one(rt, b"123456789")?;
     one(rt, b"\x01\x00")?;
     one(rt, b"\x03\x13")?;
     one(rt, b"\x80")?;
     one(rt, b"\xFF\xFF")?;
     one(rt, b"\xDE\xAD\xBE\xEF")?;
-    printing::text(rt, b"check of no bytes is ")?;
-    printing::byte(rt, crc::check_of(b""))?;
-    printing::text(rt, b"\ncheck of 79 bytes 5Ah is ")?;
-    let long = [0x5Au8; 79];
-    printing::byte(rt, crc::check_of(&long))?;
-    printing::end(rt)
+    println!(rt; "check of no bytes is {:02X}h", crc::check_of(b""))?;
+    println!(rt;
+        "check of 79 bytes 5Ah is {:02X}h",
+        crc::check_of(&[0x5A; 79])
+    )
 }

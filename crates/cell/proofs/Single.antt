@@ -2,7 +2,7 @@
 -- Stated of the contract that the checker makes of the source (`Reads.Post`). Assumes nothing.
 use mathlib.Core.Path.{◌≡◌}
 use Rattle.base.proofs.Single.{same}
-use Rattle.cell.specs.declared.Shown.{Shown}
+use Rattle.cell.specs.Shapes.{Shown}
 use Rattle.cell.specs.declared.Cell.{Cell}
 use Rattle.cell.proofs.blank.Reads as blank
 use Rattle.cell.proofs.shown_by.Reads as shown_by

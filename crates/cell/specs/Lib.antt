@@ -1,2 +1,3 @@
 -- What is held of one item, and what it shows.
+pub mod Shapes
 pub mod Cell

@@ -7,11 +7,11 @@ ghost use Rattle.cell.specs.Cell.{blank, aged_of, latest_of, shown_by, cell_of, 
 
 use base::Frames;
 
-// What the desk shows of an item: nothing yet, or a value with its age in slots.
+// What the desk shows of an item that is known: a value with its age in slots. An unknown item is `None`.
 #[derive(Clone, Copy)]
-pub enum Shown {
-    Unknown,
-    Known(u32, Frames),
+pub struct Known {
+    pub value: u32,
+    pub age: Frames,
 }
 
 // What is held of an item: its value and its age. No age passes 65,535: a greater one stands for unknown.
@@ -25,55 +25,54 @@ pub struct Cell {
 pub fn blank() -> Cell
     ensures { result ≡ blank }
 {
-    cell_of(Shown::Unknown)
+    cell_of(None)
 }
 
 // What a cell shows.
-pub fn shown_by(c: Cell) -> Shown
+pub fn shown_by(c: Cell) -> Option<Known>
     ensures { result ≡ shown_by c }
 {
-    let a = c.age;
-    if 65535 < a.0 {
-        return Shown::Unknown;
+    if 65535 < c.age.0 {
+        return None;
     }
-    Shown::Known(c.value, a)
+    Some(Known {
+        value: c.value,
+        age: c.age,
+    })
 }
 
 // What is shown, as a cell: an unknown item is held in one way.
-fn cell_of(s: Shown) -> Cell
-    ensures { result ≡ cell_of s }
+fn cell_of(shown: Option<Known>) -> Cell
+    ensures { result ≡ cell_of shown }
 {
-    match s {
-        Shown::Unknown => Cell {
+    match shown {
+        None => Cell {
             value: 0,
             age: Frames(65536),
         },
-        Shown::Known(v, a) => Cell { value: v, age: a },
+        Some(Known { value, age }) => Cell { value, age },
     }
 }
 
 // One slot later.
-fn aged(s: Shown) -> Shown
-    ensures { result ≡ aged_of s }
+fn aged(shown: Option<Known>) -> Option<Known>
+    ensures { result ≡ aged_of shown }
 {
-    match s {
-        Shown::Unknown => Shown::Unknown,
-        Shown::Known(v, a) => Shown::Known(v, base::slot_older(a)),
-    }
+    shown.map(|k| Known {
+        value: k.value,
+        age: base::slot_older(k.age),
+    })
 }
 
 // What is shown after a slot that by itself shows `new`.
-fn latest(new: Shown, old: Shown) -> Shown
+fn latest(new: Option<Known>, old: Option<Known>) -> Option<Known>
     ensures { result ≡ latest_of new old }
 {
-    match new {
-        Shown::Known(v, a) => Shown::Known(v, a),
-        Shown::Unknown => aged(old),
-    }
+    new.or_else(|| aged(old))
 }
 
 // What is held after a slot that by itself shows `new`.
-pub fn next(new: Shown, old: Cell) -> Cell
+pub fn next(new: Option<Known>, old: Cell) -> Cell
     ensures { result ≡ cell_after new old }
 {
     cell_of(latest(new, shown_by(old)))

@@ -1,5 +1,6 @@
 -- The cells after a slot, one by one.
 -- Assumes nothing.
+use Rattle.std.specs.Prelude.{Some, None}
 use mathlib.Core.Path.{◌≡◌, refl, sym, ap, ◌∙◌}
 use mathlib.Core.Bool.{Bool}
 use mathlib.Core.List.{List, [], ◌∷◌}
@@ -14,8 +15,7 @@ use Rattle.base.specs.Pick.{pick}
 use Rattle.base.proofs.Cases.{split}
 use Rattle.base.specs.Counts.{ceiling}
 use Rattle.frame.specs.Items.{items}
-use Rattle.cell.specs.declared.Shown.{Shown}
-use Rattle.cell.specs.declared.Shown.TheVariants.{Unknown, Known}
+use Rattle.cell.specs.Shapes.{Shown}
 use Rattle.cell.specs.declared.Cell.{Cell}
 use Rattle.cell.specs.Cell.{aged_of, latest_of, blank, cell_of, shown_by, cell_after}
 use Rattle.cells.specs.Cells.{cells_from, cells_after, nothing}
@@ -55,21 +55,21 @@ at_cell f cs k h =
 
 -- an age that a cell can hold
 abbrev pub Fits : Shown → Type 0
-Fits Unknown = Unit
-Fits (Known v a) = a.0 ≤ ceiling
+Fits None = Unit
+Fits (Some k) = k.age.0 ≤ ceiling
 
 -- a cell shows what was put into it
 held : (s : Shown) → Fits s → shown_by (cell_of s) ≡ s
-held Unknown h = refl
-held (Known v a) h = rw (le-ltb ceiling a.0 h)
+held None h = refl
+held (Some k) h = rw (le-ltb ceiling k.age.0 h)
 
 aged_fits : (s : Shown) → Fits (aged_of s)
-aged_fits Unknown = tt
-aged_fits (Known v a) = omega arith
+aged_fits None = tt
+aged_fits (Some k) = omega arith
 
 latest_fits : (s t : Shown) → Fits s → Fits (latest_of s t)
-latest_fits Unknown t h = aged_fits t
-latest_fits (Known v a) t h = h
+latest_fits None t h = aged_fits t
+latest_fits (Some k) t h = h
 
 -- what is shown after a slot, of the item in row k
 pub at_slot : (f : ℕ → Shown) (cs : List Cell) (k : ℕ) → k < items → Fits (f k)
@@ -84,25 +84,25 @@ one_way f cs k h t = at_cell f cs k h ∙ sym (ap cell_of (at_slot f cs k h t))
 -- The cells of `old` of which the first k are a slot older.
 abbrev pub Aged : List Cell → ℕ → List Cell → Type 0
 Aged old k cs =
-    (length cs ≡ length old) × ((j : ℕ) → get_or cs j blank ≡ pick (ltb j k) (cell_after Unknown (get_or old j blank)) (get_or old j blank))
+    (length cs ≡ length old) × ((j : ℕ) → get_or cs j blank ≡ pick (ltb j k) (cell_after None (get_or old j blank)) (get_or old j blank))
 
 pub aged_none : (old : List Cell) → Aged old 0 old
 aged_none old = (refl, λ j. rw (le-ltb j 0 (omega arith)))
 
-pub aged_next : (old : List Cell) (k : ℕ) (cs : List Cell) (d v : Cell) → k < length old → Aged old k cs → v ≡ cell_after Unknown (get_or cs k d)
+pub aged_next : (old : List Cell) (k : ℕ) (cs : List Cell) (d v : Cell) → k < length old → Aged old k cs → v ≡ cell_after None (get_or cs k d)
     → Aged old (k + 1) (set cs k v)
 aged_next old k cs d v h a e = (length-set cs k v ∙ a.0, rows)
   where
     in_it : k < length cs
     in_it = rw a.0 h
 
-    at-k : get_or (set cs k v) k blank ≡ cell_after Unknown (get_or old k blank)
+    at-k : get_or (set cs k v) k blank ≡ cell_after None (get_or old k blank)
     at-k =
         get_or-set_same cs k v blank in_it
         ∙ e
-        ∙ ap (cell_after Unknown) (within cs k d blank in_it ∙ a.1 k ∙ ap (λ (b : Bool). pick b (cell_after Unknown (get_or old k blank)) (get_or old k blank)) (le-ltb k k (omega arith)))
+        ∙ ap (cell_after None) (within cs k d blank in_it ∙ a.1 k ∙ ap (λ (b : Bool). pick b (cell_after None (get_or old k blank)) (get_or old k blank)) (le-ltb k k (omega arith)))
 
-    rows : (j : ℕ) → get_or (set cs k v) j blank ≡ pick (ltb j (k + 1)) (cell_after Unknown (get_or old j blank)) (get_or old j blank)
+    rows : (j : ℕ) → get_or (set cs k v) j blank ≡ pick (ltb j (k + 1)) (cell_after None (get_or old j blank)) (get_or old j blank)
     rows j =
         split (eqb j k) (λ t. let q : j ≡ k = eqb-true j k t in rw (q, lt-ltb k (k + 1) (omega arith)) at-k)
         (λ f.
@@ -127,5 +127,5 @@ aged_all old k cs l h a =
     (λ i t.
     let b : i < items = rw (sym (a.0 ∙ l)) t in
     a.1 i
-    ∙ ap (λ (b : Bool). pick b (cell_after Unknown (get_or old i blank)) (get_or old i blank)) (lt-ltb i k (omega arith))
+    ∙ ap (λ (b : Bool). pick b (cell_after None (get_or old i blank)) (get_or old i blank)) (lt-ltb i k (omega arith))
     ∙ sym (at_cell nothing old i b))

@@ -1,15 +1,14 @@
 -- The cells of all items after a slot (01, "The 40-byte frame", the paragraph "The desk takes slots").
 -- The rows of the items are those of `frame`; one item is in `cell`. Assumes nothing.
-use Rattle.std.specs.Prelude.{List, [], ◌∷◌, ℕ, zero, suc, get_or}
+use Rattle.std.specs.Prelude.{List, [], ◌∷◌, ℕ, zero, suc, get_or, None}
 use Rattle.frame.specs.Items.{items}
-use Rattle.cell.specs.declared.Shown.{Shown}
-use Rattle.cell.specs.declared.Shown.TheVariants.{Unknown}
+use Rattle.cell.specs.Shapes.{Shown}
 use Rattle.cell.specs.declared.Cell.{Cell}
 use Rattle.cell.specs.Cell.{blank, cell_after}
 
 -- a miss shows nothing
 abbrev pub nothing : ℕ → Shown
-nothing k = Unknown
+nothing k = None
 
 -- g k, g (k + 1), .. : n in all
 abbrev pub cells_from : (ℕ → Cell) → ℕ → ℕ → List Cell

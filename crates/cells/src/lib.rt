@@ -6,7 +6,7 @@ ghost use Rattle.std.specs.Prelude.{◌≡◌, get_or};
 ghost use Rattle.cell.specs.Cell.{blank};
 ghost use Rattle.cells.specs.Cells.{cells_after, nothing};
 
-use cell::{Cell, Shown};
+use cell::Cell;
 use frame::ITEMS;
 
 // The cell in row k; past the last row a blank one.
@@ -24,10 +24,8 @@ pub fn older(old: [Cell; ITEMS]) -> [Cell; ITEMS]
     ensures { result ≡ cells_after nothing old }
 {
     let mut cells = old;
-    let mut k: usize = 0;
-    while k < ITEMS {
-        cells[k] = cell::next(Shown::Unknown, cells[k]);
-        k += 1;
+    for c in cells.iter_mut() {
+        *c = cell::next(None, *c);
     }
     cells
 }

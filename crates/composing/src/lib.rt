@@ -7,13 +7,6 @@ ghost use Rattle.frame.specs.Write.{quarter_of, ground_at, mux_of, frame_of};
 
 use frame::Held;
 
-// The low eight bits.
-fn low(n: u32) -> u8
-    ensures { result ≡ n % 256 }
-{
-    (n % 256) as u8
-}
-
 #[tactic(auto, unfolding(frame::specs::Write::quarter_of))]
 fn byte_37(held: Held, index: u8) -> u8
     ensures { result ≡ quarter_of held (index % 4) }
@@ -46,19 +39,20 @@ fn byte_39(held: Held, index: u8, latch: u32) -> u8
     ensures { result ≡ mux_of held latch (index % 32) }
 {
     let i = index % 32;
+    let spread = latch.to_be_bytes();
     match i {
-        0 => low(latch / 256 / 256 / 256),
-        1 => low(latch / 256 / 256),
-        2 => low(latch / 256),
-        3 => low(latch),
+        0 => spread[0],
+        1 => spread[1],
+        2 => spread[2],
+        3 => spread[3],
         12 => held.flap1 % 2 * 0x10
             + held.flap2 % 2 * 0x20
             + held.flap3 % 2 * 0x40
             + held.clock % 2 * 0x80,
         21 => held.check,
         22 => held.count,
-        27 => low(latch / 256),
-        28 => low(latch),
+        27 => spread[2],
+        28 => spread[3],
         31 => held.mask % 8 * 0x10,
         _ => 0,
     }

@@ -24,10 +24,8 @@ pub fn next(c: u8, b: u8) -> u8
     ensures { result ≡ crc_byte c b }
 {
     let mut x = c ^ b;
-    let mut k: u8 = 0;
-    while k < 8 {
+    for _ in 0..8u8 {
         x = shift_step(x);
-        k += 1;
     }
     x
 }
@@ -37,11 +35,9 @@ pub fn next(c: u8, b: u8) -> u8
 pub fn check_of(s: &[u8]) -> u8
     ensures { result ≡ crc_of s.now }
 {
-    let mut c: u8 = 0;
-    let mut i: usize = 0;
-    while i < s.len() {
-        c = next(c, s[i]);
-        i += 1;
+    let mut c = 0;
+    for b in s {
+        c = next(c, *b);
     }
     c
 }

@@ -13,6 +13,7 @@ pub const ROOM: usize = 128;
 pub struct Held(pub usize);
 
 // What a call says: a line is ready, so many bytes at the front of the buffer; a line was too long; or no line is ready.
+// Three answers of equal standing: an Option or a Result would put two of them into a second enum.
 #[derive(Clone, Copy)]
 pub enum Said {
     Line(usize),
@@ -41,9 +42,10 @@ fn keep(got: usize, byte: u8, line: &mut [u8; ROOM]) -> usize
 {
     if got < ROOM {
         line[got] = byte;
-        return got + 1;
+        got + 1
+    } else {
+        ROOM + 1
     }
-    ROOM + 1
 }
 
 // What is said of a line that has ended: a carriage return at its end is no part of it.
@@ -51,15 +53,12 @@ fn say(got: usize, line: &[u8; ROOM]) -> Said
     ensures { result ≡ said_of got line.now }
 {
     if ROOM < got {
-        return Said::TooLong;
+        Said::TooLong
+    } else if line[..got].ends_with(b"\r") {
+        Said::Line(got - 1)
+    } else {
+        Said::Line(got)
     }
-    if got == 0 {
-        return Said::Line(0);
-    }
-    if line[got - 1] == b'\r' {
-        return Said::Line(got - 1);
-    }
-    Said::Line(got)
 }
 
 // The piece from a place on, up to the end of the line or of the piece.
@@ -68,23 +67,20 @@ pub fn next(held: Held, piece: &[u8], at: usize, line: &mut [u8; ROOM]) -> Step
         × (line.new ≡ (cut held.0 line.old at (drop at piece.now)).line) }
 {
     let mut got = held.0;
-    let mut place = at;
-    while place < piece.len() {
+    for place in at..piece.len() {
         let byte = piece[place];
-        place += 1;
         if byte == b'\n' {
-            let said = say(got, line);
             return Step {
                 held: Held(0),
-                at: place,
-                said,
+                at: place + 1,
+                said: say(got, line),
             };
         }
         got = keep(got, byte, line);
     }
     Step {
         held: Held(got),
-        at: place,
+        at: at.max(piece.len()),
         said: Said::Nothing,
     }
 }
@@ -93,9 +89,9 @@ pub fn next(held: Held, piece: &[u8], at: usize, line: &mut [u8; ROOM]) -> Step
 pub fn finish(held: Held, line: &[u8; ROOM]) -> Said
     ensures { result ≡ last_of held.0 line.now }
 {
-    let got = held.0;
-    if got == 0 {
-        return Said::Nothing;
+    if held.0 == 0 {
+        Said::Nothing
+    } else {
+        say(held.0, line)
     }
-    say(got, line)
 }

@@ -1,5 +1,6 @@
 -- What one slot does to any desk holds of ours: by the laws of the desk, and by cases of what is half read.
 -- Assumes nothing.
+use Rattle.std.specs.Prelude.{Some, None}
 use mathlib.Core.Path.{◌≡◌, refl, ap, sym, ◌∙◌}
 use mathlib.Core.Bool.{true, false}
 use mathlib.Core.List.{List}
@@ -17,10 +18,8 @@ use Rattle.frame.specs.Laws.{byte39}
 use Rattle.frame.proofs.Rows.{row_lt}
 use Rattle.frame.proofs.Came.{no_other}
 use Rattle.desk.specs.declared.Desk.{Desk}
-use Rattle.half.specs.declared.Half.{Half}
-use Rattle.half.specs.declared.Half.TheVariants.{Nothing, Part}
-use Rattle.cell.specs.declared.Shown.{Shown}
-use Rattle.cell.specs.declared.Shown.TheVariants.{Unknown, Known}
+use Rattle.half.specs.Shapes.{Half}
+use Rattle.cell.specs.Shapes.{Shown, known}
 use Rattle.desk.specs.declared.Received.{Received}
 use Rattle.desk.specs.declared.Answer.TheVariants.{Heard}
 use Rattle.cell.specs.Cell.{aged_of, latest_of, blank, shown_by}
@@ -41,35 +40,35 @@ after_it : (d : Desk) (f : List ℕ) (k : ℕ) → k < items → IsWhole f → s
 after_it d f k h w = ap (λ (t : Received). shows t.desk k) (heard_is d f w) ∙ desk-laws.at_frame d f k h
 
 older_is : (s : Shown) → aged_of s ≡ older s
-older_is Unknown = refl
-older_is (Known v a) = refl
+older_is None = refl
+older_is (Some k) = refl
 
 replaced_is : (s t : Shown) → latest_of s t ≡ replaced s t
-replaced_is (Known v a) t = refl
-replaced_is Unknown t = older_is t
+replaced_is (Some k) t = refl
+replaced_is None t = older_is t
 
-plain_reads : (half : Half) (f : List ℕ) (k : ℕ) → is_plain k ≡ true → carries k (index_of f) ≡ true → reading_of half f k ≡ Known (field_of f k) (frames 0)
+plain_reads : (half : Half) (f : List ℕ) (k : ℕ) → is_plain k ≡ true → carries k (index_of f) ≡ true → reading_of half f k ≡ known (field_of f k) (frames 0)
 unfolding reading_of
 plain_reads half f k h c = rw (c, h)
 
-not_carried : (half : Half) (f : List ℕ) (k : ℕ) → carries k (index_of f) ≡ false → reading_of half f k ≡ Unknown
+not_carried : (half : Half) (f : List ℕ) (k : ℕ) → carries k (index_of f) ≡ false → reading_of half f k ≡ None
 unfolding reading_of
 not_carried half f k c = rw c
 
 -- a number that is complete at the frame of index `last`, which begins none
 completed_is : (half : Half) (f : List ℕ) (last a : ℕ) → eqb last 0 ≡ false → eqb last 27 ≡ false
     → spread_of half (index_of f) (byte39 f) last (frames a) ≡ completed half last a f
-completed_is Nothing f last a x y =
+completed_is None f last a x y =
     split (eqb (index_of f) last) (λ e. let q : index_of f ≡ last = eqb-true _ _ e in rw (q, eq-eqb last last refl, x, y)) (λ e. rw e)
-completed_is (Part n acc) f last a x y =
+completed_is (Some p) f last a x y =
     split (eqb (index_of f) last)
-    (λ e. let q : index_of f ≡ last = eqb-true _ _ e in rw (q, eq-eqb last last refl, x, y) (split (eqb n last) (λ g. rw g refl) (λ g. rw g refl)))
+    (λ e. let q : index_of f ≡ last = eqb-true _ _ e in rw (q, eq-eqb last last refl, x, y) (split (eqb p.next last) (λ g. rw g refl) (λ g. rw g refl)))
     (λ e. rw e)
 
 -- what is kept of a number that goes on
 kept_joined : (half : Half) (i b : ℕ) → kept_at i (joined half i b) ≡ goes_on half i b
-kept_joined Nothing i b = refl
-kept_joined (Part n acc) i b = split (eqb n i) (λ e. rw e refl) (λ e. rw e refl)
+kept_joined None i b = refl
+kept_joined (Some p) i b = split (eqb p.next i) (λ e. rw e refl) (λ e. rw e refl)
 
 half_is : (half : Half) (i b : ℕ) → half_at half i b ≡ half_by half i b
 half_is half i b =
@@ -108,7 +107,7 @@ spread_reads : (half : Half) (f : List ℕ) (k : ℕ) → k < items → is_plain
 spread_reads half f k h n = sym (spread_is half f (index_of f) (byte39 f) k refl refl (once k h n) n)
 
 -- a fresh desk: each of its cells is blank
-fresh_shows : (k : ℕ) → k < items → shows fresh_desk k ≡ Unknown
+fresh_shows : (k : ℕ) → k < items → shows fresh_desk k ≡ None
 fresh_shows k h = ap shown_by (get_or-replicate items k blank blank h)
 
 pub slot_laws : SlotLaws proved

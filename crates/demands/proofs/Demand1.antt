@@ -1,11 +1,11 @@
 -- Demand 1 holds of our rig and desk: the laws of the crates below, gathered.
 -- Assumes nothing.
+use Rattle.std.specs.Prelude.{Ok, Err}
 use mathlib.Core.Path.{◌≡◌, ap}
 use mathlib.Core.List.{List}
 use Prim.Native.Nat.{ℕ, ◌+◌, ◌≤◌, ◌<◌}
 use lib.ListN.{length}
 use borrow.Author.Tests.{lt-ltb, le-ltb}
-use Rattle.frame.specs.declared.Wrote.TheVariants.{Done, Refused}
 use Rattle.frame.specs.Items.{numbered}
 use Rattle.frame.proofs.Place.{short, room}
 use Rattle.desk.specs.declared.Received.{Received}
@@ -22,10 +22,10 @@ use Rattle.demands.proofs.Numbers.{all_numbers}
 use Rattle.demands.proofs.Orders.{part_order, event_order_01, ifft_event_order, ifft_item_order}
 use Rattle.demands.proofs.Menu.{write_order, write_untouched, write_put, read_none, read_some}
 
-with_room : (r : Rig) (b : List ℕ) (at : ℕ) → at + 40 ≤ length b → ◌≡◌ {A = Built} (built_of r b at) (record { rig = sent r; wrote = Done })
+with_room : (r : Rig) (b : List ℕ) (at : ℕ) → at + 40 ≤ length b → ◌≡◌ {A = Built} (built_of r b at) (record { rig = sent r; wrote = Ok tt })
 with_room r b at h = simp (le-ltb _ _ h)
 
-no_room_lem : (r : Rig) (b : List ℕ) (at : ℕ) → length b < at + 40 → ◌≡◌ {A = Built} (built_of r b at) (record { rig = r; wrote = Refused (numbered 18) })
+no_room_lem : (r : Rig) (b : List ℕ) (at : ℕ) → length b < at + 40 → ◌≡◌ {A = Built} (built_of r b at) (record { rig = r; wrote = Err (numbered 18) })
 no_room_lem r b at h = simp (lt-ltb _ _ h)
 
 pub demand_1 : Demand1For proved

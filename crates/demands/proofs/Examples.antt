@@ -1,5 +1,6 @@
 -- Worked runs: the statement is not empty, and its bound is the least.
 -- Assumes nothing.
+use Rattle.std.specs.Prelude.{None}
 use mathlib.Core.Path.{◌≡◌, refl}
 use mathlib.Core.List.{List, [], ◌∷◌, ◌++◌}
 use Prim.Native.Nat.{ℕ, zero, suc}
@@ -9,8 +10,7 @@ use Rattle.base.specs.Counts.{frames}
 use Rattle.frame.specs.declared.Item.TheVariants.{LongCounter}
 use Rattle.frame.specs.Write.{quarter_of, ground_at, mux_of, frame_of}
 use Rattle.frame.specs.Read.{all_are, arrived_of, is_plain}
-use Rattle.cell.specs.declared.Shown.{Shown}
-use Rattle.cell.specs.declared.Shown.TheVariants.{Unknown, Known}
+use Rattle.cell.specs.Shapes.{Shown, known}
 use Rattle.cells.specs.Cells.{cells_after}
 use Rattle.desk.specs.Desk.{reading_of, half_after, slot_of}
 use Rattle.demands.specs.Outfit.{proved}
@@ -48,16 +48,16 @@ too_few =
     }
 
 -- one more, and it is the present one
-pub just_enough : see (whole ++ (alone spin ∷ times 35 whole)) ≡ Known 1 (frames 3)
+pub just_enough : see (whole ++ (alone spin ∷ times 35 whole)) ≡ known 1 (frames 3)
 unfolding steps slot_of arrived_of all_are cells_after reading_of is_plain half_after frame_of mux_of quarter_of ground_at
 just_enough = refl
 
 -- the counter is the one latched at frame 0, three slots old when it is whole
-pub latched : see (replicate 5 (alone spin) ++ (whole ++ (alone spin ∷ alone spin ∷ times 3 whole))) ≡ Known 5 (frames 3)
+pub latched : see (replicate 5 (alone spin) ++ (whole ++ (alone spin ∷ alone spin ∷ times 3 whole))) ≡ known 5 (frames 3)
 unfolding steps slot_of arrived_of all_are cells_after reading_of is_plain half_after frame_of mux_of quarter_of ground_at
 latched = refl
 
 -- bytes 0, 1 of one round are not joined to 2, 3 of the next
-pub not_joined : see (alone spin ∷ (times 2 whole ++ (times 32 missed ++ times 2 whole))) ≡ Unknown
+pub not_joined : see (alone spin ∷ (times 2 whole ++ (times 32 missed ++ times 2 whole))) ≡ None
 unfolding steps slot_of arrived_of all_are cells_after reading_of is_plain half_after frame_of mux_of quarter_of ground_at
 not_joined = refl

@@ -1,5 +1,6 @@
 -- Each fraud is caught: a rig by one word, a desk by one run after which it shows something else than ours.
 -- Assumes nothing.
+use Rattle.std.specs.Prelude.{Some, None}
 use mathlib.Core.Path.{◌≡◌, refl, ◌∙◌, ap, subst}
 use mathlib.Core.Bool.{true}
 use mathlib.Core.List.{List, [], ◌∷◌, ◌++◌}
@@ -9,20 +10,18 @@ use lib.ListN.{get_or, replicate}
 use Rattle.crc.specs.Crc.{shift, crc_from, crc_of}
 use Rattle.judge.specs.declared.Which.TheVariants.{Stop, Deflection}
 use Rattle.judge.specs.declared.Sensor.{Sensor}
-use Rattle.judge.specs.declared.Verdict.{Verdict}
+use Rattle.judge.specs.Shapes.{Verdict}
 use Rattle.judge.specs.declared.Refusal.TheVariants.{StrayWord}
 use Rattle.judge.specs.Commands.{counted_of, block_of}
 use Rattle.judge.specs.Records.{with_supply, with_settings, with_sensor, with_direction}
 use Rattle.frame.specs.declared.Item.TheVariants.{Bias}
-use Rattle.frame.specs.declared.Reading.{Reading}
-use Rattle.frame.specs.declared.Reading.TheVariants.{Nothing, Value}
+use Rattle.frame.specs.Shapes.{Reading}
 use Rattle.frame.specs.Write.{quarter_of, ground_at, mux_of, frame_of}
 use Rattle.frame.specs.Read.{all_are, arrived_of, is_plain, read_of}
 use Rattle.desk.specs.declared.Answer.{Answer}
 use Rattle.desk.specs.declared.Answer.TheVariants as desk
 use Rattle.desk.specs.declared.Received.{Received}
-use Rattle.cell.specs.declared.Shown.{Shown}
-use Rattle.cell.specs.declared.Shown.TheVariants.{Unknown, Known}
+use Rattle.cell.specs.Shapes.{Shown}
 use Rattle.cells.specs.Cells.{cells_after}
 use Rattle.desk.specs.Desk.{reading_of, half_after, fresh_desk, slot_of}
 use Rattle.power.specs.declared.PanelSetting.TheVariants as panel
@@ -31,7 +30,7 @@ use Rattle.rig.specs.declared.Answer.TheVariants.{Accepted, Refused}
 use Rattle.rig.specs.declared.Reply.TheVariants.{Plain}
 use Rattle.rig.specs.declared.Taken.{Taken}
 use Rattle.rig.specs.Records.{with_core}
-use Rattle.rig.specs.Words.{kind_of, refused_of, settled_of, head_of, fresh_of, verdict_of, closed_of, dropped_of, pending_of, take_of}
+use Rattle.rig.specs.Words.{kind_of, refused_of, settled_of, head_of, fresh_of, verdict_of, closed_of, dropped_of, pending_of, take_with, take_of}
 use Rattle.rig.specs.Start.{clear_sensor, start_core, start_rig}
 use Rattle.power.specs.Power.{set_of}
 use Rattle.laws.specs.Results.{outcome}
@@ -69,12 +68,12 @@ sends w = ran.word (w % 0x10000) (omega arith)
 
 -- the value that a frame is read as
 abbrev read_number : Reading → ℕ
-read_number (Value v) = v
-read_number Nothing = 0
+read_number (Some v) = v
+read_number None = 0
 
 -- one refusal, and the made-up count is 0
 not_uncounted : Demand2For (rig_of uncounted) → ⊥
-unfolding ran.rig_after ran.ledger take_of fresh_of settled_of refused_of kind_of
+unfolding ran.rig_after ran.ledger take_of take_with fresh_of settled_of refused_of kind_of
 not_uncounted d =
     let e : ◌≡◌ {A = ℕ} 0 1 = d.runs.count (ran.word 0x8000 (omega arith) ∷ []) in
     omega arith
@@ -84,7 +83,7 @@ abbrev ordered : List ran.Happening
 ordered = sends 0x6302 ∷ sends 0xA301 ∷ sends 0xA301 ∷ sends 0xE312 ∷ []
 
 not_hasty : Demand2For hasty → ⊥
-unfolding ran.rig_after take_of pending_of dropped_of closed_of verdict_of fresh_of head_of settled_of refused_of kind_of block_of counted_of crc_of crc_from shift frame_of mux_of quarter_of ground_at is_plain read_of
+unfolding ran.rig_after take_of take_with pending_of dropped_of closed_of verdict_of fresh_of head_of settled_of refused_of kind_of block_of counted_of crc_of crc_from shift frame_of mux_of quarter_of ground_at is_plain read_of
 not_hasty d =
     let e : ◌≡◌ {A = ℕ} 1 0 = ap read_number (d.when.before [] ordered direction (tt, (tt, (tt, (tt, tt))))).0 in
     omega arith
@@ -108,16 +107,16 @@ not_strict : Demand2For (rig_of strict) → ⊥
 not_strict d = (d.supplies.limit_never_0d start_rig 0x2910 Stop refl).0 refl
 
 abbrev value_of : Shown → ℕ
-value_of Unknown = 0
-value_of (Known v a) = v
+value_of None = 0
+value_of (Some k) = k.value
 
 abbrev age_of : Shown → ℕ
-age_of Unknown = 0
-age_of (Known v a) = a.0
+age_of None = 0
+age_of (Some k) = k.age.0
 
 abbrev known_of : Shown → ℕ
-known_of Unknown = 0
-known_of (Known v a) = 1
+known_of None = 0
+known_of (Some k) = 1
 
 abbrev answer_number : Answer → ℕ
 answer_number desk.Heard = 0

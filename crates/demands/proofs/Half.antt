@@ -1,5 +1,6 @@
 -- What is half read, computed from the history; what the rig has latched; and what a frame then brings.
 -- Assumes nothing.
+use Rattle.std.specs.Prelude.{Some, None}
 use mathlib.Core.Path.{◌≡◌, refl, ◌∙◌, sym, ap, subst}
 use mathlib.Core.Bool.{Bool, true, false, ◌||◌}
 use mathlib.Core.List.{List, [], ◌∷◌}
@@ -19,18 +20,14 @@ use Rattle.frame.specs.Read.{carries, born_of, rem_of, is_plain, index_of, field
 use Rattle.frame.specs.Write.{latch_of, mux_of, frame_of}
 use Rattle.frame.proofs.Rows.{plain_born, spread_rows}
 use Rattle.frame.proofs.Back.{field_back}
-use Rattle.cell.specs.declared.Shown.{Shown}
-use Rattle.cell.specs.declared.Shown.TheVariants.{Unknown, Known}
-use Rattle.half.specs.declared.SoFar.{SoFar}
-use Rattle.half.specs.declared.SoFar.TheVariants.{None, Bytes}
-use Rattle.half.specs.declared.Half.{Half}
-use Rattle.half.specs.declared.Half.TheVariants.{Nothing, Part}
+use Rattle.cell.specs.Shapes.{Shown, known}
+use Rattle.half.specs.Shapes.{SoFar, Half, part}
 use Rattle.half.specs.Half.{grown_of, joined, kept_at, partly, half_at, born_at}
 use Rattle.desk.specs.Desk.{half_after, reading_of}
 use Rattle.rig.specs.declared.Rig.{Rig}
 use Rattle.sending.specs.Sending.{held_of, next_latch, sent, next_frame}
 use Rattle.demands.specs.History.{held, Slot, missed, whole}
-use Rattle.demands.proofs.Shown.{Run, broken, from, back, known, brought, back_one, back_more, no_run}
+use Rattle.demands.proofs.Shown.{Run, broken, from, back, born, brought, back_one, back_more, no_run}
 
 -- what a rig that a run has reached keeps, and a frame needs
 pub record Good (r : Rig) : Type 0 where
@@ -56,14 +53,14 @@ abbrev pub more_of : ℕ → ℕ
 more_of i = pick (ltb i 4) i (i - 27)
 
 abbrev pub half_from : ℕ → Run → Half
-half_from i broken = Nothing
-half_from i (from r) = Part (i + 1) (part_of i r)
+half_from i broken = None
+half_from i (from r) = part (i + 1) (part_of i r)
 
 abbrev pub half_of : List Slot → Half
-half_of [] = Nothing
-half_of (missed ∷ h) = Nothing
+half_of [] = None
+half_of (missed ∷ h) = None
 half_of (whole r ∷ h) =
-    pick (partly r.sending.next) (half_from r.sending.next (back (more_of r.sending.next) r.sending.next (whole r ∷ h))) Nothing
+    pick (partly r.sending.next) (half_from r.sending.next (back (more_of r.sending.next) r.sending.next (whole r ∷ h))) None
 
 -- the rig has latched the number that the next frame goes on with
 abbrev pub Linked : Rig → List Slot → Type 0
@@ -89,17 +86,17 @@ back_other (suc n) i r h e = rw e
 
 abbrev grew_from : ℕ → ℕ → Run → SoFar
 grew_from j b broken = None
-grew_from j b (from r) = Bytes (part_of j r % 0x1000000 * 256 + b)
+grew_from j b (from r) = Some (part_of j r % 0x1000000 * 256 + b)
 
 same : (j b : ℕ) (x : Run) → joined (half_from j x) (j + 1) b ≡ grew_from j b x
 same j b broken = refl
 same j b (from r) = rw (eq-eqb (j + 1) (j + 1) refl)
 
 -- (over a function f of the index, since `rw` by the rig's own index would rewrite inside the rig itself)
-here : (f : ℕ → Run) (i j b : ℕ) → i ≡ j → partly j ≡ true → joined (pick (partly i) (half_from i (f i)) Nothing) (j + 1) b ≡ grew_from j b (f j)
+here : (f : ℕ → Run) (i j b : ℕ) → i ≡ j → partly j ≡ true → joined (pick (partly i) (half_from i (f i)) None) (j + 1) b ≡ grew_from j b (f j)
 here f i j b q e = rw (q, e) (same j b (f j))
 
-other : (p : Bool) (i j b : ℕ) (x : Run) → ¬ (i ≡ j) → joined (pick p (half_from i x) Nothing) (j + 1) b ≡ None
+other : (p : Bool) (i j b : ℕ) (x : Run) → ¬ (i ≡ j) → joined (pick p (half_from i x) None) (j + 1) b ≡ None
 other false i j b x q = refl
 other true i j b broken q = refl
 other true i j b (from r) q = rw (ne_eqb (i + 1) (j + 1) (λ e. q (omega arith)))
@@ -117,17 +114,17 @@ join j b (whole r ∷ h) e =
 -- what frame i makes of the number it belongs to
 abbrev grew : ℕ → Run → SoFar
 grew i broken = None
-grew i (from r) = Bytes (part_of i r)
+grew i (from r) = Some (part_of i r)
 
 kept_grew : (i : ℕ) (x : Run) → kept_at i (grew i x) ≡ half_from i x
 kept_grew i broken = refl
 kept_grew i (from r) = refl
 
-born_grew_3 : (x : Run) → born_at (frames 3) (grew 3 x) ≡ known (row_of LongCounter) x
+born_grew_3 : (x : Run) → born_at (frames 3) (grew 3 x) ≡ born (row_of LongCounter) x
 born_grew_3 broken = refl
 born_grew_3 (from r) = refl
 
-born_grew_28 : (x : Run) → born_at (frames 1) (grew 28 x) ≡ known (row_of FreeTime) x
+born_grew_28 : (x : Run) → born_at (frames 1) (grew 28 x) ≡ born (row_of FreeTime) x
 born_grew_28 broken = refl
 born_grew_28 (from r) = refl
 
@@ -155,7 +152,7 @@ module _ (r : Rig) (h : List Slot) (g : Good r) (l : Linked r h) where
     where
       go : (x : Run) → back (more_of j) j h ≡ x → grew_from j b x ≡ grew (j + 1) x
       go broken q = refl
-      go (from r0) q = ap Bytes (a r0 (l j e n r0 q))
+      go (from r0) q = ap Some (a r0 (l j e n r0 q))
 
   abbrev Grows : ℕ → Type 0
   Grows i = r.sending.next ≡ i → grown_of (half_of h) i (M i) ≡ grew i (back (more_of i) i (whole r ∷ h))
@@ -164,13 +161,13 @@ module _ (r : Rig) (h : List Slot) (g : Good r) (l : Linked r h) where
   unfolding mux_of
   grow_0 n =
       let e : r.edbs.0 / 256 / 256 / 256 % 256 ≡ r.edbs.0 / 256 / 256 / 256 = omega (arith, g.long) in
-      ap Bytes e ∙ sym (ap (grew 0) (back_one 0 r h n))
+      ap Some e ∙ sym (ap (grew 0) (back_one 0 r h n))
 
   grow_27 : Grows 27
   unfolding mux_of
   grow_27 n =
       let e : r.panel.free / 256 % 256 ≡ r.panel.free / 256 = omega (arith, g.free) in
-      ap Bytes e ∙ sym (ap (grew 27) (back_one 27 r h n))
+      ap Some e ∙ sym (ap (grew 27) (back_one 27 r h n))
 
   grow_1 : Grows 1
   unfolding mux_of
@@ -220,8 +217,8 @@ module _ (r : Rig) (h : List Slot) (g : Good r) (l : Linked r h) where
       P i = r.sending.next ≡ i → kept_at i (grown_of (half_of h) i (M i)) ≡ half_from i (back (more_of i) i (whole r ∷ h))
 
       go : (b : Bool) → partly r.sending.next ≡ b
-          → pick b (kept_at r.sending.next (grown_of (half_of h) r.sending.next (M r.sending.next))) Nothing
-          ≡ pick b (half_from r.sending.next (back (more_of r.sending.next) r.sending.next (whole r ∷ h))) Nothing
+          → pick b (kept_at r.sending.next (grown_of (half_of h) r.sending.next (M r.sending.next))) None
+          ≡ pick b (half_from r.sending.next (back (more_of r.sending.next) r.sending.next (whole r ∷ h))) None
       go false e = refl
       go true e =
           on_partly P (λ n. ap (kept_at 0) (grow_0 n) ∙ kept_grew 0 (B 0)) (λ n. ap (kept_at 1) (grow_1 n) ∙ kept_grew 1 (B 1))
@@ -230,8 +227,8 @@ module _ (r : Rig) (h : List Slot) (g : Good r) (l : Linked r h) where
   -- what the frame shows of each item
   abbrev Reads : ℕ → ℕ → Type 0
   Reads k i =
-      pick (is_plain k) (Known (field_of (next_frame r) k) (frames 0)) (born_at (frames (born_of k)) (grown_of (half_of h) i (M i)))
-      ≡ known k (back (born_of k) i (whole r ∷ h))
+      pick (is_plain k) (known (field_of (next_frame r) k) (frames 0)) (born_at (frames (born_of k)) (grown_of (half_of h) i (M i)))
+      ≡ born k (back (born_of k) i (whole r ∷ h))
 
   plain : (k : ℕ) → is_plain k ≡ true → born_of k ≡ 0 → field_of (next_frame r) k ≡ held r k → Reads k r.sending.next
   plain k t b f = rw (t, f, b, back_one r.sending.next r h refl, b)
@@ -267,15 +264,15 @@ module _ (r : Rig) (h : List Slot) (g : Good r) (l : Linked r h) where
   pub reads : (k : ℕ) → k < items → reading_of (half_of h) (next_frame r) k ≡ brought k (whole r ∷ h)
   unfolding reading_of brought
   reads k b =
-      ap (λ (i : ℕ). pick (carries k i) (seen i (get_or (next_frame r) 39 0)) Unknown) index
-      ∙ ap (λ (x : ℕ). pick (carries k r.sending.next) (seen r.sending.next x) Unknown) byte
+      ap (λ (i : ℕ). pick (carries k i) (seen i (get_or (next_frame r) 39 0)) None) index
+      ∙ ap (λ (x : ℕ). pick (carries k r.sending.next) (seen r.sending.next x) None) byte
       ∙ go (carries k r.sending.next) refl
     where
       seen : ℕ → ℕ → Shown
-      seen i x = pick (is_plain k) (Known (field_of (next_frame r) k) (frames 0)) (born_at (frames (born_of k)) (grown_of (half_of h) i x))
+      seen i x = pick (is_plain k) (known (field_of (next_frame r) k) (frames 0)) (born_at (frames (born_of k)) (grown_of (half_of h) i x))
 
       go : (c : Bool) → carries k r.sending.next ≡ c
-          → pick c (seen r.sending.next (M r.sending.next)) Unknown ≡ pick c (known k (back (born_of k) r.sending.next (whole r ∷ h))) Unknown
+          → pick c (seen r.sending.next (M r.sending.next)) None ≡ pick c (born k (back (born_of k) r.sending.next (whole r ∷ h))) None
       go false e = refl
       go true e = value k b e
 

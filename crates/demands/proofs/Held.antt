@@ -17,7 +17,7 @@ use Rattle.frame.specs.Items.{items, row_of, held_at}
 use Rattle.frame.specs.Write.{quarter_of, ground_at, mux_of, frame_of}
 use Rattle.frame.proofs.Rows.{row_lt}
 use Rattle.rig.specs.declared.Rig.{Rig}
-use Rattle.rig.specs.Words.{kind_of, refused_of, settled_of, head_of, fresh_of, verdict_of, closed_of, dropped_of, pending_of, take_of}
+use Rattle.rig.specs.Words.{kind_of, refused_of, settled_of, head_of, fresh_of, verdict_of, closed_of, dropped_of, pending_of, take_with, take_of}
 use Rattle.rig.specs.Start.{start_rig}
 use Rattle.power.specs.Power.{set_of}
 use Rattle.sending.specs.Sending.{held_of}
@@ -60,7 +60,7 @@ rows_of (r ∷ rs) t =
     )
 
 computed : T (test table)
-unfolding doing after_frames take_of pending_of dropped_of closed_of verdict_of fresh_of head_of settled_of refused_of kind_of block_of counted_of single_of mode_cmd carried relay_of targeted limited switched crc_of crc_from shift set_of frame_of mux_of ground_at quarter_of
+unfolding doing after_frames take_of take_with pending_of dropped_of closed_of verdict_of fresh_of head_of settled_of refused_of kind_of block_of counted_of single_of mode_cmd carried relay_of targeted limited switched crc_of crc_from shift set_of frame_of mux_of ground_at quarter_of
 computed = tt
 
 pub held_table : HeldTable proved held

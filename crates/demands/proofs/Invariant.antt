@@ -7,10 +7,10 @@ use native.Mathlib.Omega.{arith}
 use lib.ListN.{length, get_or-replicate}
 use borrow.Author.Tests.{lt-ltb}
 use Rattle.frame.specs.Items.{items}
-use Rattle.cell.specs.declared.Shown.{Shown}
+use Rattle.cell.specs.Shapes.{Shown}
 use Rattle.desk.specs.declared.Desk.{Desk}
 use Rattle.desk.specs.declared.Received.{Received}
-use Rattle.half.specs.declared.Half.{Half}
+use Rattle.half.specs.Shapes.{Half}
 use Rattle.cell.specs.Cell.{latest_of, blank, shown_by}
 use Rattle.cells.specs.Cells.{nothing}
 use Rattle.desk.specs.Desk.{reading_of, half_after, slot_of, missed_of, heard_of, shows}

@@ -1,5 +1,6 @@
 -- The writer and the reader of a command's words give 02's numbers in 02's order: from the bounds of the settings, and from the laws of `wording`.
 -- Assumes nothing.
+use Rattle.std.specs.Prelude.{Ok, Err}
 use mathlib.Core.Path.{◌≡◌, refl, ◌∙◌, ap}
 use mathlib.Core.Bool.{Bool, true, false, not, ◌&&◌, ◌||◌}
 use mathlib.Core.Logic.{◌⊎◌, inl, inr}
@@ -13,9 +14,7 @@ use Rattle.base.proofs.Cases.{split}
 use Rattle.wording.specs.declared.Command.{Command}
 use Rattle.wording.specs.declared.Command.TheVariants.{Relay, Iel, HeadMask, Target, Limit, Mode, Stepping, Multiplexers, DirectionWindow, EnergyWindow}
 use Rattle.wording.specs.declared.Refusal.TheVariants.{TooWide, NoRoom, NotOne}
-use Rattle.wording.specs.declared.Wrote.TheVariants.{Words, Refused}
-use Rattle.wording.specs.declared.Meant.{Meant}
-use Rattle.wording.specs.declared.Meant.TheVariants as meant
+use Rattle.wording.specs.Shapes.{Meant}
 use Rattle.wording.specs.Written.{fits, words_of, wrote_of, written_of}
 use Rattle.wording.specs.Meaning.{read_of}
 use Rattle.wording.specs.Laws.{OneSingle, OneBlock}
@@ -69,11 +68,11 @@ need_words (EnergyWindow start stop) = refl
 
 -- the three outcomes of a write
 module _ (c : Command) (out : List ℕ) where
-  too_wide : wide c ≡ true → (wrote_of c (length out) ≡ Refused TooWide) × (written_of c out ≡ out)
+  too_wide : wide c ≡ true → (wrote_of c (length out) ≡ Err TooWide) × (written_of c out ≡ out)
   unfolding wrote_of written_of
   too_wide w = let f : fits c ≡ false = fit_wide c ∙ ap not w in (rw f, rw f)
 
-  no_room_lem : wide c ≡ false → ltb (length out) (need c) ≡ true → (wrote_of c (length out) ≡ Refused NoRoom) × (written_of c out ≡ out)
+  no_room_lem : wide c ≡ false → ltb (length out) (need c) ≡ true → (wrote_of c (length out) ≡ Err NoRoom) × (written_of c out ≡ out)
   unfolding wrote_of written_of
   no_room_lem w r =
       let f : fits c ≡ true = fit_wide c ∙ ap not w in
@@ -82,7 +81,7 @@ module _ (c : Command) (out : List ℕ) where
       (rw (f, need_words c, e), rw (f, need_words c, e))
 
   put : wide c ≡ false → ltb (length out) (need c) ≡ false
-      → (wrote_of c (length out) ≡ Words (need c)) × (written_of c out ≡ words_of c ++ drop (need c) out)
+      → (wrote_of c (length out) ≡ Ok (need c)) × (written_of c out ≡ words_of c ++ drop (need c) out)
   unfolding wrote_of written_of
   put w r =
       let f : fits c ≡ true = fit_wide c ∙ ap not w in
@@ -100,7 +99,7 @@ module _ (c : Command) (out : List ℕ) where
       split (wide c) (λ w. (too_wide w).1)
       (λ w. split (ltb (length out) (need c)) (λ r. (no_room_lem w r).1) (λ r. absurd (n (ap write_number (put w r).0))))
 
-  pub write_put : write_number (wrote_of c (length out)) ≡ 0 → (wrote_of c (length out) ≡ Words (need c)) × (written_of c out ≡ words_of c ++ drop (need c) out)
+  pub write_put : write_number (wrote_of c (length out)) ≡ 0 → (wrote_of c (length out) ≡ Ok (need c)) × (written_of c out ≡ words_of c ++ drop (need c) out)
   write_put z =
       split (wide c) (λ w. absurd (let e : ◌≡◌ {A = ℕ} 25 0 = cc (ap write_number (too_wide w).0, z) in omega arith))
       (λ w. split (ltb (length out) (need c))
@@ -111,13 +110,13 @@ module _ (ws : List ℕ) where
   pub read_none : (OneSingle ws → ⊥) → (OneBlock ws → ⊥) → read_number (read_of ws) ≡ 38
   read_none s b = ap read_number (laws.is_none ws s b)
 
-  not_refused : OneSingle ws ⊎ OneBlock ws → read_of ws ≡ meant.Refused NotOne → ⊥
+  not_refused : OneSingle ws ⊎ OneBlock ws → read_of ws ≡ Err NotOne → ⊥
   not_refused (inl s) e = (laws.not_one ws e).0 s
   not_refused (inr b) e = (laws.not_one ws e).1 b
 
   told : OneSingle ws ⊎ OneBlock ws → (m : Meant) → read_of ws ≡ m → read_number m ≡ 0
-  told o (meant.Is c) e = refl
-  told o (meant.Refused why) e = absurd (not_refused o (e ∙ ap meant.Refused (laws.no_other ws why e)))
+  told o (Ok c) e = refl
+  told o (Err why) e = absurd (not_refused o (e ∙ ap Err (laws.no_other ws why e)))
 
   pub read_some : OneSingle ws ⊎ OneBlock ws → read_number (read_of ws) ≡ 0
   read_some o = told o (read_of ws) refl

@@ -1,5 +1,6 @@
 -- The history of slots leaves one thing to be shown, demand 3 one desk, and demands 1 and 2 one rig and one hearing of all bytes.
 -- Assumes nothing.
+use Rattle.std.specs.Prelude.{Option, Some, None, Ok}
 use mathlib.Core.Path.{◌≡◌, refl, ◌∙◌, ap, sym, subst}
 use mathlib.Core.List.{List, [], ◌∷◌, ◌++◌}
 use mathlib.Core.Logic.{◌⊎◌, inl, inr, ⊎_elim}
@@ -17,16 +18,14 @@ use Rattle.supply.specs.Rules.{with_level, stepped}
 use Rattle.supply.specs.Laws.{SpinMoves}
 use Rattle.frame.specs.declared.Item.{Item}
 use Rattle.frame.specs.declared.Item.TheVariants.{LongCounter, FreeTime}
-use Rattle.frame.specs.declared.Wrote.TheVariants as wrote
 use Rattle.frame.specs.Items.{row_of}
 use Rattle.frame.specs.Read.{index_of, is_plain, carries, born_of}
 use Rattle.frame.proofs.Rows.{spread_items}
 use Rattle.frame.specs.Laws.{byte39}
 use Rattle.desk.specs.declared.Desk.{Desk}
-use Rattle.half.specs.declared.Half.{Half}
+use Rattle.half.specs.Shapes.{Half}
 use Rattle.desk.specs.declared.Answer.{Answer}
-use Rattle.cell.specs.declared.Shown.{Shown}
-use Rattle.cell.specs.declared.Shown.TheVariants.{Known}
+use Rattle.cell.specs.Shapes.{Shown, known}
 use Rattle.desk.specs.declared.Received.{Received}
 use Rattle.desk.specs.Laws.{answered}
 use Rattle.judge.specs.declared.Sensor.{Sensor}
@@ -62,14 +61,19 @@ use Rattle.demands.proofs.AnyDesk.{slot_laws}
 use Rattle.demands.proofs.Demand1.{demand_1}
 use Rattle.demands.proofs.Demand3.{demand_3}
 
+-- the value that is shown, if one is
+abbrev pub value_in : Shown → ℕ
+value_in None = 0
+value_in (Some k) = k.value
+
 -- what is brought at one place is one value
 one_value : (k v u : ℕ) (h : List Slot) → Brings k v h → Brings k u h → v ≡ u
 one_value k v u h p q =
-    let e : Known v (frames (born_of k)) ≡ Known u (frames (born_of k)) = sym (brings_is k v h p) ∙ brings_is k u h q in
-    cc
+    let e : known v (frames (born_of k)) ≡ known u (frames (born_of k)) = sym (brings_is k v h p) ∙ brings_is k u h q in
+    ap value_in e
 
 same_place : (k i j v u : ℕ) (h : List Slot) → i ≡ j → Brings k v (drop i h) → Brings k u (drop j h)
-    → Known v (frames (min ceiling (i + born_of k))) ≡ Known u (frames (min ceiling (j + born_of k)))
+    → known v (frames (min ceiling (i + born_of k))) ≡ known u (frames (min ceiling (j + born_of k)))
 same_place k i j v u h e p q =
     let f : v ≡ u = one_value k v u (drop j h) (subst (λ (x : ℕ). Brings k v (drop x h)) e p) q in
     cc (e, f)
@@ -157,10 +161,10 @@ unfolding cored
 core_is c d p q r s = same_cored p q r s
 
 -- and a rig is
-made : Core → Sensor → Faults → Pending → ℕ → Panel → Sending → Spins → Rig
+made : Core → Sensor → Faults → Option Pending → ℕ → Panel → Sending → Spins → Rig
 made a x c d e f g h = record { core = a; register = x; faults = c; pending = d; check = e; panel = f; sending = g; edbs = h }
 
-same_made : {a i : Core} {x y : Sensor} {c k : Faults} {d l : Pending} {e m : ℕ} {f n : Panel} {g o : Sending} {h p : Spins}
+same_made : {a i : Core} {x y : Sensor} {c k : Faults} {d l : Option Pending} {e m : ℕ} {f n : Panel} {g o : Sending} {h p : Spins}
     → a ≡ i → x ≡ y → c ≡ k → d ≡ l → e ≡ m → f ≡ n → g ≡ o → h ≡ p → made a x c d e f g h ≡ made i y k l m n o p
 same_made q z s t u v w x = cc
 
@@ -211,7 +215,7 @@ one_rig o one two =
           (λ t. let h = ltb-true _ _ t in (one.room18 r b at h).0 ∙ sym (demand_1.room18 r b at h).0)
           (λ t.
           let h = ltb-false _ _ t in
-          (one.room r b at h).0 ∙ ap (λ (q : Rig). record { rig = q; wrote = wrote.Done }) (sent_is r (o.rig.sent r) (two.runs.sent r)) ∙ sym (demand_1.room r b at h).0);
+          (one.room r b at h).0 ∙ ap (λ (q : Rig). record { rig = q; wrote = Ok tt }) (sent_is r (o.rig.sent r) (two.runs.sent r)) ∙ sym (demand_1.room r b at h).0);
       filled = λ r b at.
           split (ltb (length b) (at + 40))
           (λ t. let h = ltb-true _ _ t in (one.room18 r b at h).1 ∙ sym (demand_1.room18 r b at h).1)

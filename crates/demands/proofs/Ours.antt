@@ -6,7 +6,7 @@ use Prim.Native.Nat.{ℕ}
 use contract.Lifetimes.{Lfts}
 use denote.Ref.{Bor}
 use Rattle.block.specs.declared.Part.{Part}
-use Rattle.block.specs.declared.Located.{Located}
+use Rattle.block.specs.Shapes.{Located}
 use Rattle.block.specs.Parts.{bytes_of, part_of}
 use Rattle.locating.proofs.locate.Reads as locate-fn
 use Rattle.locating.proofs.slice_of.Reads as slice-fn
@@ -46,7 +46,7 @@ pub our_blocks : OurBlocks
 our_blocks =
     record {
       locate = λ κs b p x m. m;
-      place = λ k d1 d2 p x m. m;
+      place = λ l p x m. m;
       part = part_sliced;
       event = λ κs b n x m. m;
       ifft_event = λ κs b n x m. m;
@@ -57,7 +57,7 @@ our_blocks =
       frame_number = λ r n m. m;
       block_number = λ r n m. m;
       asks_locate = λ κs b p. tt;
-      asks_place = λ k d1 d2 p. tt;
+      asks_place = λ l p. tt;
       asks_slice = λ κs b l. tt;
       asks_event = λ κs b n. tt;
       asks_ifft_event = λ κs b n. tt;

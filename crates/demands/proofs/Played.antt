@@ -1,12 +1,12 @@
 -- Each step of a run is what the functions of `bench`, `slots`, `passing` and `losing` do: from their contracts, and what a buffer with room holds once a frame is built.
 -- Assumes nothing.
+use Rattle.std.specs.Prelude.{Ok, Err}
 use mathlib.Core.Path.{◌≡◌, refl, ◌∙◌, ap, sym}
 use mathlib.Core.List.{List, []}
 use Prim.Native.Nat.{ℕ, ◌+◌, ◌≤◌, ◌<◌}
 use lib.ListN.{length, take, drop}
 use borrow.Author.Tests.{lt-ltb}
-use Rattle.frame.specs.declared.Wrote.{Wrote}
-use Rattle.frame.specs.declared.Wrote.TheVariants as wrote
+use Rattle.frame.specs.Shapes.{Wrote}
 use Rattle.frame.specs.Items.{numbered}
 use Rattle.frame.specs.Write.{wrote_of}
 use Rattle.frame.proofs.Place.{room, short}
@@ -22,7 +22,6 @@ use Rattle.bench.specs.declared.Worded.{Worded}
 use Rattle.slots.specs.declared.Sent.{Sent}
 use Rattle.slots.specs.declared.Handed.{Handed}
 use Rattle.slots.specs.declared.Passed.{Passed}
-use Rattle.slots.specs.declared.Outcome.TheVariants.{Slot}
 use Rattle.slots.specs.Slots.{built_bench, handed_of, passed_if}
 use Rattle.slots.proofs.Place.{stands}
 use Rattle.demands.specs.Outfit.{proved}
@@ -30,10 +29,10 @@ use Rattle.demands.specs.Queue.{Line, marked, C0, FF, built, came, gone, arrive,
 use Rattle.demands.specs.Played.{bench_at, then, Written, WrittenOn, NoRoom, NoSlot, PlayedAlone, PlayedSlots}
 
 -- a buffer with room is written; one without is refused
-writes : (r : Rig) (s : List ℕ) (at : ℕ) → at + 40 ≤ length s → wrote_of at s ≡ wrote.Done
+writes : (r : Rig) (s : List ℕ) (at : ℕ) → at + 40 ≤ length s → wrote_of at s ≡ Ok tt
 writes r s at h = (room (held_of r) 0 0 at s h).0
 
-no_room_lem : (s : List ℕ) (at : ℕ) → length s < at + 40 → ◌≡◌ {A = Wrote} (wrote_of at s) (wrote.Refused (numbered 18))
+no_room_lem : (s : List ℕ) (at : ℕ) → length s < at + 40 → ◌≡◌ {A = Wrote} (wrote_of at s) (Err (numbered 18))
 no_room_lem s at h = simp (lt-ltb _ _ h)
 
 abbrev sent_bench : Sent → Bench
@@ -101,15 +100,15 @@ module _ (slot : Bench → Received) (l : Line) (b : Bench) (s left : List ℕ) 
   passed_on : (k : Line) (a : Answer) → at + 40 ≤ length s → (slot (bench_at l)).answer ≡ a
       → ◌≡◌ {A = Bench} (record { rig = sent l.rig; desk = (slot (bench_at l)).desk }) (bench_at k) → WrittenOn l k s at a t left
   passed_on k a h u v =
-      let e : t ≡ passed_if wrote.Done (bench_at l) (slot (bench_at l)) = on_line ∙ ap (λ (w : Wrote). passed_if w (bench_at l) (slot (bench_at l))) (writes l.rig s at h) in (
+      let e : t ≡ passed_if (Ok tt) (bench_at l) (slot (bench_at l)) = on_line ∙ ap (λ (w : Wrote). passed_if w (bench_at l) (slot (bench_at l))) (writes l.rig s at h) in (
         ap passed_bench e ∙ v,
-        ap (λ (x : Passed). x.outcome) e ∙ ap Slot u,
+        ap (λ (x : Passed). x.outcome) e ∙ ap Ok u,
         n ∙ ap (λ (x : Bench). filled_of x.rig s at) p,
       )
 
   no_slot : length s < at + 40 → NoSlot l s t left
   no_slot h =
-      let e : t ≡ passed_if (wrote.Refused (numbered 18)) (bench_at l) (slot (bench_at l)) = on_line ∙ ap (λ (w : Wrote). passed_if w (bench_at l) (slot (bench_at l))) (no_room_lem s at h) in (
+      let e : t ≡ passed_if (Err (numbered 18)) (bench_at l) (slot (bench_at l)) = on_line ∙ ap (λ (w : Wrote). passed_if w (bench_at l) (slot (bench_at l))) (no_room_lem s at h) in (
         ap passed_bench e,
         ap (λ (x : Passed). x.outcome) e,
         n ∙ (short (held_of b.rig) b.rig.sending.next (next_latch b.rig) at s h).1,

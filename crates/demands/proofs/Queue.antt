@@ -9,7 +9,6 @@ use lib.ListN.{replicate}
 use Rattle.base.specs.declared.Frames.{Frames}
 use Rattle.frame.specs.Items.{row_of}
 use Rattle.desk.specs.declared.Desk.{Desk}
-use Rattle.cell.specs.declared.Shown.TheVariants.{Known}
 use Rattle.rig.specs.declared.Rig.{Rig}
 use Rattle.demands.specs.History.{Slot, missed, whole, held, Told}
 use Rattle.demands.specs.Outfit.{Outfit}
@@ -17,6 +16,7 @@ use Rattle.demands.specs.AtOnce.{AtOnceFor, World, Turn, arrives, lost, lost_c0,
 use Rattle.demands.specs.AtOnce as world
 use Rattle.demands.specs.Demand3.{Demand3For}
 use Rattle.demands.specs.Queue.{Line, Alone, word, spin, set, cut, no_room, Empty, marked, C0, FF, Step, alone, built, came, gone, idle, torn, begin, moved, unheard, arrive, lose, step, steps, Beat, build, hand, beats, builds}
+use Rattle.cell.specs.Shapes.{known}
 
 -- what has happened to the rig since: something to it alone, or a frame built
 data Move : Type 0 where
@@ -277,7 +277,7 @@ module _ (o : Outfit) where
             let b = behind ss in
             let l = steps o (begin o) ss in
             let t = round_it l (caught b.from b.since b.reached b.rig (b.way ∙ e)) e bs k f in
-            subst (λ (w : World). (age : Frames) × (o.look w.desk item ≡ Known (held w.rig (row_of item)) age)) t.1 (d.round t.0 item);
+            subst (λ (w : World). (age : Frames) × (o.look w.desk item ≡ known (held w.rig (row_of item)) age)) t.1 (d.round t.0 item);
       }
 
 -- and back: a run in which each frame becomes a slot as it is built is a run of steps
@@ -355,6 +355,6 @@ module _ (o : Outfit) where
             let w = run o (start o) es in
             let e = all_steps (start o) es in
             let f : steps o (steps o (begin o) (steps_all es)) (beats (pairs 35)) ≡ line_of (run o w (replicate 35 arrives)) = ap (λ (l : Line). steps o l (beats (pairs 35))) e ∙ pair_steps w 35 in
-            subst (λ (l : Line). (age : Frames) × (o.look l.desk item ≡ Known (held l.rig (row_of item)) age)) f
+            subst (λ (l : Line). (age : Frames) × (o.look l.desk item ≡ known (held l.rig (row_of item)) age)) f
             (d.round (steps_all es) (ap (λ (l : Line). l.way) e) (pairs 35) (pair_builds 35) (ap (λ (l : Line). l.way) f) item);
       }

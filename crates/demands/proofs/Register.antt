@@ -1,5 +1,6 @@
 -- When a setting shows (specs/Register), of ours: what is held is read back, and the register is followed by the laws of the rig.
 -- Assumes nothing.
+use Rattle.std.specs.Prelude.{Some}
 use mathlib.Core.Path.{◌≡◌, refl, ap, subst, ◌∙◌}
 use mathlib.Core.Bool.{Bool, true, not, ◌||◌}
 use mathlib.Core.List.{List, [], ◌∷◌, ◌++◌}
@@ -11,16 +12,14 @@ use lib.ListN.{get_or}
 use borrow.Author.Tests.{eq-eqb}
 use Rattle.base.proofs.Table.{below}
 use Rattle.frame.specs.declared.Item.{Item}
-use Rattle.frame.specs.declared.Reading.TheVariants.{Value}
 use Rattle.frame.specs.Items.{items, row_of, held_at}
 use Rattle.frame.specs.Read.{is_plain, carries, read_of}
 use Rattle.frame.proofs.Laws.{laws as frame-laws}
 use Rattle.frame.proofs.Rows.{row_lt}
-use Rattle.rig.specs.declared.Pending.{Pending}
 use Rattle.rig.specs.declared.Rig.{Rig}
 use Rattle.rig.specs.Start.{start_rig}
 use Rattle.sending.specs.Sending.{held_of, next_latch, next_frame}
-use Rattle.laws.specs.Ordered.{Order, multiplexers, direction, energy, pair_of, asked_by}
+use Rattle.laws.specs.Ordered.{Order, multiplexers, direction, energy, pair_of, asked_by, asked_in}
 use Rattle.laws.specs.Runs.{Happening, word, spin, block, held_as, ours, happened, rig_after, rig_reached, given}
 use Rattle.laws.specs.Register.{orders, NoSpin, NoOrder}
 use Rattle.laws.proofs.Runs.{run_laws}
@@ -32,17 +31,17 @@ use Rattle.demands.proofs.Held.{second}
 
 -- what a frame carries reads back modulo its width, and fits it
 pub shows : (es : List Happening) (k : ℕ) → is_plain k ≡ true → carries k (rig_reached ours es).sending.next ≡ true
-    → read_of (next_frame (rig_reached ours es)) k ≡ Value (held_at (held_of (rig_reached ours es)) k)
+    → read_of (next_frame (rig_reached ours es)) k ≡ Some (held_at (held_of (rig_reached ours es)) k)
 shows es k l e =
     let r = rig_reached ours es in
-    frame-laws.back (held_of r) r.sending.next (next_latch r) k l e ∙ ap Value (mod-eq_of_lt (run_laws.widths es k l))
+    frame-laws.back (held_of r) r.sending.next (next_latch r) k l e ∙ ap Some (mod-eq_of_lt (run_laws.widths es k l))
 
 -- plain items, each with the value that the rig holds of it
 abbrev Plain : Rig → Item × ℕ → Type 0
 Plain r x = (is_plain (row_of x.0) ≡ true) × (held_at (held_of r) (row_of x.0) ≡ x.1)
 
 carried : (es : List Happening) (x : Item × ℕ) → Plain (rig_reached ours es) x → Carries (rig_reached ours es) x → Reads proved (rig_reached ours es) x
-carried es x h c = shows es (row_of x.0) h.0 c ∙ ap Value h.1
+carried es x h c = shows es (row_of x.0) h.0 c ∙ ap Some h.1
 
 each : {P Q : Item × ℕ → Type 0} → ((x : Item × ℕ) → P x → Q x) → (xs : List (Item × ℕ)) → Each P xs → Each Q xs
 each f [] h = tt
@@ -102,7 +101,7 @@ after es w h p head n s fs gs b o u v =
     let e : pair_of p (rig_reached ours (es ++ rest)).register ≡ asked_by p (get_or s 0 0) (get_or s 1 0) =
     ap (λ (q : Rig). pair_of p q.register) (in_two start_rig es rest)
     ∙ register_laws.reaches r w h p fs gs o u v
-    ∙ ap (λ (q : Pending). asked_by p q.first q.second) held in
+    ∙ ap (asked_in p) held in
     subst (λ (x : ℕ × ℕ). Each (Reads proved (rig_reached ours (es ++ rest))) (of_sensor p x)) e (register_shown (es ++ rest) p)
 
 pub shown_when : ShownWhen proved

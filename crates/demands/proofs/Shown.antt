@@ -1,5 +1,6 @@
 -- The history of slots, computed: what the newest slots bring, and what is then shown; and that this is what `Told` says.
 -- Assumes nothing.
+use Rattle.std.specs.Prelude.{None}
 use mathlib.Core.Path.{◌≡◌, refl, ◌∙◌, sym, ap, subst}
 use mathlib.Core.Bool.{Bool, true, false}
 use mathlib.Core.List.{List, [], ◌∷◌}
@@ -12,8 +13,7 @@ use lib.ListN.{drop}
 use lib.Seq.{drop-nil}
 use borrow.Author.Tests.{eq-eqb, eqb-true}
 use Rattle.frame.specs.Items.{items}
-use Rattle.cell.specs.declared.Shown.{Shown}
-use Rattle.cell.specs.declared.Shown.TheVariants.{Unknown, Known}
+use Rattle.cell.specs.Shapes.{Shown, known}
 use Rattle.base.specs.Pick.{pick}
 use Rattle.base.specs.Counts.{frames}
 use Rattle.frame.specs.Read.{carries, born_of, phase_of, period_of}
@@ -33,17 +33,18 @@ back n i (missed ∷ h) = broken
 back zero i (whole r ∷ h) = pick (eqb r.sending.next i) (from r) broken
 back (suc n) i (whole r ∷ h) = pick (eqb r.sending.next i) (back n (i - 1) h) broken
 
-abbrev pub known : ℕ → Run → Shown
-known k broken = Unknown
-known k (from r) = Known (held r k) (frames (born_of k))
+-- what such a run brings of the item in row k
+abbrev pub born : ℕ → Run → Shown
+born k broken = None
+born k (from r) = known (held r k) (frames (born_of k))
 
 unfoldable pub brought : ℕ → List Slot → Shown
-brought k [] = Unknown
-brought k (missed ∷ h) = Unknown
-brought k (whole r ∷ h) = pick (carries k r.sending.next) (known k (back (born_of k) r.sending.next (whole r ∷ h))) Unknown
+brought k [] = None
+brought k (missed ∷ h) = None
+brought k (whole r ∷ h) = pick (carries k r.sending.next) (born k (back (born_of k) r.sending.next (whole r ∷ h))) None
 
 unfoldable pub shown_of : ℕ → List Slot → Shown
-shown_of k [] = Unknown
+shown_of k [] = None
 shown_of k (s ∷ h) = latest_of (brought k (s ∷ h)) (shown_of k h)
 
 pub back_one : (i : ℕ) (r : Rig) (h : List Slot) → r.sending.next ≡ i → back 0 i (whole r ∷ h) ≡ from r
@@ -90,11 +91,11 @@ run_of n f i (missed ∷ h) l e = absurd (no_run f e)
 run_of zero f i (whole r ∷ h) l e = run_one (eqb r.sending.next i) f r i h refl e
 run_of (suc n) f i (whole r ∷ h) l e = run_more (eqb r.sending.next i) n f r i h refl (omega arith) (λ d. run_of n f (i - 1) h (omega arith) d) e
 
-pub unknown_known : (v a : ℕ) → Unknown ≡ Known v (frames a) → ⊥
+pub unknown_known : (v a : ℕ) → None ≡ known v (frames a) → ⊥
 unknown_known v a e = let z : ◌≡◌ {A = ℕ} 0 1 = cc in omega arith
 
 -- what is brought is brought
-pub brings_is : (k v : ℕ) (h : List Slot) → Brings k v h → brought k h ≡ Known v (frames (born_of k))
+pub brings_is : (k v : ℕ) (h : List Slot) → Brings k v h → brought k h ≡ known v (frames (born_of k))
 unfolding brought
 brings_is k v h b =
     let t : (t : List Slot) × (h ≡ whole b.last ∷ t) = top b.came in
@@ -110,7 +111,7 @@ module _ (k : ℕ) (in_table : k < items) where
   phase_32 = ltb→lt _ _ (below (λ (j : ℕ). ltb (phase_of j) 32) items tt k in_table)
 
   abbrev Case : List Slot → Type 0
-  Case h = ((v : ℕ) × Brings k v h × (brought k h ≡ Known v (frames (born_of k)))) ⊎ (brought k h ≡ Unknown)
+  Case h = ((v : ℕ) × Brings k v h × (brought k h ≡ known v (frames (born_of k)))) ⊎ (brought k h ≡ None)
 
   due_cases : (c : Bool) (x : Run) (r : Rig) (h : List Slot) → carries k r.sending.next ≡ c → back (born_of k) r.sending.next (whole r ∷ h) ≡ x → Case (whole r ∷ h)
   unfolding brought
@@ -130,22 +131,22 @@ module _ (k : ℕ) (in_table : k < items) where
   cases (missed ∷ h) = inr refl
   cases (whole r ∷ h) = due_cases (carries k r.sending.next) (back (born_of k) r.sending.next (whole r ∷ h)) r h refl refl
 
-  nothing_new : (h : List Slot) (v : ℕ) → brought k h ≡ Unknown → Brings k v h → ⊥
+  nothing_new : (h : List Slot) (v : ℕ) → brought k h ≡ None → Brings k v h → ⊥
   nothing_new h v e b = unknown_known v (born_of k) (sym e ∙ brings_is k v h b)
 
-  none_yet : (s : Slot) (h : List Slot) → brought k (s ∷ h) ≡ Unknown → ((j v : ℕ) → Brings k v (drop j h) → ⊥) → (j v : ℕ) → Brings k v (drop j (s ∷ h)) → ⊥
+  none_yet : (s : Slot) (h : List Slot) → brought k (s ∷ h) ≡ None → ((j v : ℕ) → Brings k v (drop j h) → ⊥) → (j v : ℕ) → Brings k v (drop j (s ∷ h)) → ⊥
   none_yet s h e n zero v b = nothing_new (s ∷ h) v e b
   none_yet s h e n (suc j) v b = n j v b
 
-  none_since : (s : Slot) (h : List Slot) (j : ℕ) → brought k (s ∷ h) ≡ Unknown → ((i u : ℕ) → i < j → Brings k u (drop i h) → ⊥)
+  none_since : (s : Slot) (h : List Slot) (j : ℕ) → brought k (s ∷ h) ≡ None → ((i u : ℕ) → i < j → Brings k u (drop i h) → ⊥)
       → (i u : ℕ) → i < suc j → Brings k u (drop i (s ∷ h)) → ⊥
   none_since s h j e n zero u l b = nothing_new (s ∷ h) u e b
   none_since s h j e n (suc i) u l b = n i u (omega arith) b
 
-  age : {v m n : ℕ} → m ≡ n → Known v (frames m) ≡ Known v (frames n)
-  age {v} e = ap (λ (x : ℕ). Known v (frames x)) e
+  age : {v m n : ℕ} → m ≡ n → known v (frames m) ≡ known v (frames n)
+  age {v} e = ap (λ (x : ℕ). known v (frames x)) e
 
-  older : (s : Slot) (h : List Slot) → brought k (s ∷ h) ≡ Unknown → (x : Shown) → Told k h x → Told k (s ∷ h) (aged_of x)
+  older : (s : Slot) (h : List Slot) → brought k (s ∷ h) ≡ None → (x : Shown) → Told k h x → Told k (s ∷ h) (aged_of x)
   older s h e x (not_yet n) = not_yet (none_yet s h e n)
   older s h e x (latest j v b n) =
       let q : min 65535 (suc j + born_of k) ≡ min 65535 (min 65535 (j + born_of k) + 1) = omega arith in

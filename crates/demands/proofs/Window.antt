@@ -1,5 +1,6 @@
 -- 35 whole slots in a row show every item as the rig then holds it.
 -- Assumes nothing.
+use Rattle.std.specs.Prelude.{None}
 use mathlib.Core.Path.{◌≡◌, refl, ◌∙◌, sym, ap}
 use mathlib.Core.Bool.{Bool, true, false}
 use mathlib.Core.List.{List, ◌∷◌}
@@ -10,7 +11,6 @@ use native.Mathlib.Decide.{le_ind}
 use lib.Dec.{eqb, leb, ltb, leb→le, ltb→lt}
 use lib.ListN.{replicate}
 use Rattle.frame.specs.Items.{items}
-use Rattle.cell.specs.declared.Shown.TheVariants.{Unknown, Known}
 use Rattle.base.specs.declared.Frames.{Frames}
 use Rattle.base.specs.Pick.{pick}
 use Rattle.base.specs.Counts.{frames}
@@ -21,10 +21,11 @@ use Rattle.base.proofs.Table.{below, is_true}
 use Rattle.rig.specs.declared.Rig.{Rig}
 use Rattle.sending.specs.Sending.{sent}
 use Rattle.demands.specs.History.{held, Slot, whole}
-use Rattle.demands.proofs.Shown.{Run, broken, from, back, known, brought, shown_of, back_one, back_more}
+use Rattle.demands.proofs.Shown.{Run, broken, from, back, born, brought, shown_of, back_one, back_more}
 use Rattle.demands.specs.Outfit.{proved}
 use Rattle.demands.specs.AtOnce.{Turn, arrives, World, start, next, run}
 use Rattle.demands.proofs.Invariant.{runs, after, good}
+use Rattle.cell.specs.Shapes.{known}
 
 -- the rig after m frames, and the history with m whole frames more
 abbrev B : ℕ → Rig → Rig
@@ -102,7 +103,7 @@ module _ (r : Rig) (h : List Slot) (n31 : r.sending.next ≤ 31) where
 
     -- of item k the present value is shown
     abbrev Fresh : ℕ → Type 0
-    Fresh m = (a : ℕ) × (shown_of k (W m r h) ≡ Known (held r k) (frames a))
+    Fresh m = (a : ℕ) × (shown_of k (W m r h) ≡ known (held r k) (frames a))
 
     present : (m : ℕ) (r0 : Rig) → 3 ≤ m → back (born_of k) (B m r).sending.next (W (suc m) r h) ≡ from r0 → held r0 k ≡ held r k
     present m r0 l e = let b : born_of k ≤ 3 = born-3 in inside (born_of k) (B m r).sending.next (suc m) k r0 (omega arith) e
@@ -115,17 +116,17 @@ module _ (r : Rig) (h : List Slot) (n31 : r.sending.next ≤ 31) where
         let t : (r0 : Rig) × (back (born_of k) (B m r).sending.next (W (suc m) r h) ≡ from r0) =
         there (born_of k) (B m r).sending.next m (omega arith) (omega (arith, e)) refl in
         let c : carries k (B m r).sending.next ≡ true = ap (carries k) e ∙ carried in
-        (born_of k, rw (c, t.1) (ap (λ (v : ℕ). Known v (frames (born_of k))) (present m t.0 l t.1)))
+        (born_of k, rw (c, t.1) (ap (λ (v : ℕ). known v (frames (born_of k))) (present m t.0 l t.1)))
 
     stays : (m : ℕ) → 3 ≤ m → Fresh m → Fresh (suc m)
     unfolding shown_of brought
     stays m l f = go (carries k (B m r).sending.next) (back (born_of k) (B m r).sending.next (W (suc m) r h)) refl
       where
         go : (c : Bool) (x : Run) → back (born_of k) (B m r).sending.next (W (suc m) r h) ≡ x
-            → (a : ℕ) × (latest_of (pick c (known k x) Unknown) (shown_of k (W m r h)) ≡ Known (held r k) (frames a))
+            → (a : ℕ) × (latest_of (pick c (born k x) None) (shown_of k (W m r h)) ≡ known (held r k) (frames a))
         go false x e = (min 65535 (f.0 + 1), ap aged_of f.1)
         go true broken e = (min 65535 (f.0 + 1), ap aged_of f.1)
-        go true (from r0) e = (born_of k, ap (λ (v : ℕ). Known v (frames (born_of k))) (present m r0 l e))
+        go true (from r0) e = (born_of k, ap (λ (v : ℕ). known v (frames (born_of k))) (present m r0 l e))
 
     -- the slot, at least the fourth, at which the index is the one that brings item k
     due : ℕ
@@ -141,12 +142,12 @@ module _ (r : Rig) (h : List Slot) (n31 : r.sending.next ≤ 31) where
 -- if 35 slots in a row are built and arrive whole with nothing else happening, every item is shown and equals the rig's present one
 pub thirty_five : (es : List Turn) (k : ℕ) → k < items
     → (age : Frames) × (shows (run proved (run proved (start proved) es) (replicate 35 arrives)).desk k
-    ≡ Known (held (run proved (run proved (start proved) es) (replicate 35 arrives)).rig k) age)
+    ≡ known (held (run proved (run proved (start proved) es) (replicate 35 arrives)).rig k) age)
 thirty_five es k l =
     let w : World = run proved (start proved) es in
-    let f : (a : ℕ) × (shown_of k (W 35 w.rig w.past) ≡ Known (held w.rig k) (frames a)) =
+    let f : (a : ℕ) × (shown_of k (W 35 w.rig w.past) ≡ known (held w.rig k) (frames a)) =
     window w.rig w.past (good w.rig (after es).made).next k l in (
       frames f.0,
       (runs w (replicate 35 arrives) (after es)).shown k l ∙ ap (shown_of k) (past 35 w) ∙ f.1
-          ∙ ap (λ (v : ℕ). Known v (frames f.0)) (sym (ap (λ (r : Rig). held r k) (rig 35 w) ∙ b_held 35 k w.rig)),
+          ∙ ap (λ (v : ℕ). known v (frames f.0)) (sym (ap (λ (r : Rig). held r k) (rig 35 w) ∙ b_held 35 k w.rig)),
     )

@@ -6,12 +6,12 @@ use Rattle.base.specs.Counts.{frames}
 use Rattle.frame.specs.declared.Item.{Item}
 use Rattle.frame.specs.Items.{row_of}
 use Rattle.desk.specs.declared.Desk.{Desk}
-use Rattle.cell.specs.declared.Shown.TheVariants.{Known}
 use Rattle.power.specs.declared.PanelSetting.{PanelSetting}
 use Rattle.rig.specs.declared.Rig.{Rig}
 use Rattle.laws.specs.Runs.{FitsPanel}
 use Rattle.demands.specs.History.{Slot, missed, whole, held, Told}
 use Rattle.demands.specs.Outfit.{Outfit, fill_c0, fill_ff}
+use Rattle.cell.specs.Shapes.{known}
 
 -- rig, desk, and every slot so far, the newest first
 pub record World : Type 0 where
@@ -95,4 +95,4 @@ then_whole o es n = run o (after_turns o es) (replicate n.0 arrives)
 pub record AtOnceFor (o : Outfit) : Type 0 where
   pub shown : (es : List Turn) (item : Item) → Told (row_of item) (after_turns o es).past (o.look (after_turns o es).desk item)
   pub round : (es : List Turn) (item : Item)
-      → (age : Frames) × (o.look (then_whole o es enough).desk item ≡ Known (held (then_whole o es enough).rig (row_of item)) age)
+      → (age : Frames) × (o.look (then_whole o es enough).desk item ≡ known (held (then_whole o es enough).rig (row_of item)) age)

@@ -1,12 +1,11 @@
 -- Demand 2: each command word, spin and power cut changes the rig as the Guide, with our rules for its gaps, says. Frames are written and read by its
 -- layout; nominal and burst blocks are taken apart by its tables. What is written of a command reaches the judgement of its settings. Assumes nothing.
-use Rattle.std.specs.Prelude.{◌≡◌, true, not, List, [], ◌∷◌, ℕ, ◌<◌, T, length, get_or}
+use Rattle.std.specs.Prelude.{◌≡◌, true, not, List, [], ◌∷◌, ℕ, ◌<◌, T, length, get_or, Some}
 use Rattle.supply.specs.Laws.{SupplyLaws}
 use Rattle.judge.specs.Table.{TableLaws}
 use Rattle.volts.specs.declared.Sheet.{Sheet}
 use Rattle.volts.specs.Volts.{Shows}
 use Rattle.frame.specs.Write.{latch_of, frame_of}
-use Rattle.frame.specs.declared.Reading.TheVariants.{Value}
 use Rattle.frame.specs.Items.{held_at}
 use Rattle.frame.specs.Read.{is_plain, carries, read_of}
 use Rattle.frame.specs.Laws.{Laws}
@@ -63,7 +62,7 @@ pub record Demand2For (o : Outfit) : Type 0 where
   pub frame : (r : Rig) → o.frame r ≡ frame_of (held_of r) r.sending.next (latch_of (held_of r) r.sending.next r.sending.latch)
   -- of every rig that a run has reached, each plain item that its next frame carries is read back as it is held
   pub shown : (es : List Happening) (k : ℕ) → is_plain k ≡ true → carries k (rig_reached o.rig es).sending.next ≡ true
-      → read_of (o.frame (rig_reached o.rig es)) k ≡ Value (held_at (held_of (rig_reached o.rig es)) k)
+      → read_of (o.frame (rig_reached o.rig es)) k ≡ Some (held_at (held_of (rig_reached o.rig es)) k)
   -- accepted settings show in the next frame that carries them, but for windows and multiplexers: these go into the sensor's register at a spin, and frames
   -- show the register
   pub register : RegisterLaws o.rig

@@ -5,10 +5,10 @@ use Rattle.std.specs.Prelude.{◌≡◌, List, [], ◌++◌, ℕ, replicate}
 use Rattle.base.specs.declared.Frames.{Frames}
 use Rattle.frame.specs.declared.Item.{Item}
 use Rattle.frame.specs.Items.{row_of}
-use Rattle.cell.specs.declared.Shown.TheVariants.{Known}
 use Rattle.demands.specs.History.{held, Told}
 use Rattle.demands.specs.Outfit.{Outfit}
 use Rattle.demands.specs.Queue.{Line, Step, begin, steps, Beat, build, hand, beats, builds}
+use Rattle.cell.specs.Shapes.{known}
 
 -- the rig, the desk and what is between them after any steps from the start; and after builds and arrivals more, with nothing else happening
 abbrev pub reached : Outfit → List Step → Line
@@ -25,7 +25,7 @@ pub record Demand3For (o : Outfit) : Type 0 where
   -- Nothing is on its way; then 35 frames are built and all arrive whole, in any order of building and arriving, with nothing else happening: every item
   -- is shown and equals the rig's present one. (Frames that were on their way before have become slots of any sort, as part of ss.)
   pub round : (ss : List Step) → (reached o ss).way ≡ [] → (bs : List Beat) → builds bs ≡ 35 → (then_beats o ss bs).way ≡ [] → (item : Item)
-      → (age : Frames) × (o.look (then_beats o ss bs).desk item ≡ Known (held (then_beats o ss bs).rig (row_of item)) age)
+      → (age : Frames) × (o.look (then_beats o ss bs).desk item ≡ known (held (then_beats o ss bs).rig (row_of item)) age)
 
 -- 34 are not enough: there is a run after which, 34 whole slots later, some item that is shown is not the rig's present one.
 pub record TooFew (o : Outfit) : Type 0 where
@@ -34,6 +34,6 @@ pub record TooFew (o : Outfit) : Type 0 where
   pub item : Item
   pub value : ℕ
   pub age : Frames
-  pub old : o.look (then_beats o run (replicate 34 build ++ replicate 34 hand)).desk item ≡ Known value age
+  pub old : o.look (then_beats o run (replicate 34 build ++ replicate 34 hand)).desk item ≡ known value age
   pub after : (then_beats o run (replicate 34 build ++ replicate 34 hand)).way ≡ []
   pub differs : value ≡ held (then_beats o run (replicate 34 build ++ replicate 34 hand)).rig (row_of item) → ⊥

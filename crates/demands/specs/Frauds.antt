@@ -1,14 +1,13 @@
 -- The five frauds of 01 ("How tight each promise is") and five more, each written as a rig or a desk, and which demand catches it.
 -- Assumes nothing.
-use Rattle.std.specs.Prelude.{◌≡◌, Bool, true, false, ◌&&◌, List, [], ◌∷◌, ℕ, ◌/◌, ◌%◌, eqb, ltb, length, get_or}
+use Rattle.std.specs.Prelude.{◌≡◌, Bool, true, false, ◌&&◌, List, [], ◌∷◌, ℕ, ◌/◌, ◌%◌, eqb, ltb, length, get_or, Some, None}
 use Rattle.base.specs.Pick.{pick}
 use Rattle.base.specs.Counts.{frames}
 use Rattle.frame.specs.declared.Item.{Item}
 use Rattle.frame.specs.Items.{row_of}
 use Rattle.desk.specs.declared.Desk.{Desk}
 use Rattle.cell.specs.declared.Cell.{Cell}
-use Rattle.cell.specs.declared.Shown.{Shown}
-use Rattle.cell.specs.declared.Shown.TheVariants.{Unknown, Known}
+use Rattle.cell.specs.Shapes.{Shown, known}
 use Rattle.desk.specs.declared.Answer.{Answer}
 use Rattle.desk.specs.declared.Answer.TheVariants.{Heard, Missed, Refused}
 use Rattle.desk.specs.declared.Received.{Received}
@@ -69,8 +68,8 @@ blanker = desk_of fresh_desk slot_of (λ d. fresh_desk) ours_look
 
 -- is an item shown as known?
 abbrev pub is_known : Shown → Bool
-is_known Unknown = false
-is_known (Known v a) = true
+is_known None = false
+is_known (Some k) = true
 
 -- a slot at which everything known grows older, told as heard
 abbrev pub aged : Desk → Received
@@ -91,8 +90,8 @@ pretender = desk_of fresh_desk (λ d f. pick (all_known d.cells) (aged d) (slot_
 
 -- 5. made-up ages: everything known is shown as new
 abbrev pub as_new : Shown → Shown
-as_new Unknown = Unknown
-as_new (Known v a) = Known v (frames 0)
+as_new None = None
+as_new (Some k) = known k.value (frames 0)
 
 abbrev pub flatterer : Outfit
 flatterer = desk_of fresh_desk slot_of missed_of (λ d item. as_new (ours_look d item))

@@ -1,11 +1,10 @@
 -- What a desk should show of an item, said of the history of slots alone. Histories have the newest slot first.
 -- Keeps 01 "The 40-byte frame", its paragraph on the desk. Assumes nothing.
-use Rattle.std.specs.Prelude.{◌≡◌, List, ◌∷◌, ℕ, suc, ◌+◌, ◌%◌, ◌<◌, min, drop}
+use Rattle.std.specs.Prelude.{◌≡◌, List, ◌∷◌, ℕ, suc, ◌+◌, ◌%◌, ◌<◌, min, drop, None}
 use Rattle.base.specs.Counts.{frames, ceiling}
 use Rattle.frame.specs.Items.{held_at}
 use Rattle.frame.specs.Read.{period_of, phase_of, born_of}
-use Rattle.cell.specs.declared.Shown.{Shown}
-use Rattle.cell.specs.declared.Shown.TheVariants.{Unknown, Known}
+use Rattle.cell.specs.Shapes.{Shown, known}
 use Rattle.rig.specs.declared.Rig.{Rig}
 use Rattle.sending.specs.Sending.{held_of}
 
@@ -35,6 +34,6 @@ pub record Brings (k v : ℕ) (h : List Slot) : Type 0 where
 -- `Told k h s`: after the slots h, s is what should be shown of the item in row k. Unknown, if no run of slots has brought it; else what the latest
 -- that brought it brought, which ended j slots ago, aged by the slots since its first frame, up to 65,535.
 pub data Told (k : ℕ) (h : List Slot) : Shown → Type 0 where
-  not_yet : ((j v : ℕ) → Brings k v (drop j h) → ⊥) → Told k h Unknown
+  not_yet : ((j v : ℕ) → Brings k v (drop j h) → ⊥) → Told k h None
   latest : (j v : ℕ) → Brings k v (drop j h) → ((i u : ℕ) → i < j → Brings k u (drop i h) → ⊥)
-      → Told k h (Known v (frames (min ceiling (j + born_of k))))
+      → Told k h (known v (frames (min ceiling (j + born_of k))))

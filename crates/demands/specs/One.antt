@@ -3,7 +3,7 @@
 use Rattle.std.specs.Prelude.{◌≡◌, List, [], ◌∷◌, ℕ}
 use Rattle.frame.specs.declared.Item.{Item}
 use Rattle.desk.specs.declared.Desk.{Desk}
-use Rattle.cell.specs.declared.Shown.{Shown}
+use Rattle.cell.specs.Shapes.{Shown}
 use Rattle.desk.specs.declared.Received.{Received}
 use Rattle.desk.specs.Desk.{fresh_desk, slot_of}
 use Rattle.power.specs.declared.PanelSetting.{PanelSetting}

@@ -1,6 +1,6 @@
 -- 01's order of the numbers 19 to 24, of any bytes, and 02's of 25 and 26, of any command and buffer: the first whose condition holds.
 -- Keeps 01 "What the numbers mean" and 02 (i); said in their own numbers, apart from the tests that `block`, `event` and `wording` are written with. Assumes nothing.
-use Rattle.std.specs.Prelude.{Bool, not, ◌&&◌, ◌||◌, List, [], ◌∷◌, ◌++◌, ℕ, ◌+◌, eqb, leb, ltb, length, get_or}
+use Rattle.std.specs.Prelude.{Bool, not, ◌&&◌, ◌||◌, List, [], ◌∷◌, ◌++◌, ℕ, ◌+◌, eqb, leb, ltb, length, get_or, Ok, Err}
 use Rattle.base.specs.Pick.{pick}
 use Rattle.block.specs.declared.Part.{Part}
 use Rattle.block.specs.declared.Part.TheVariants.{Sgl0, DirectEvents, EPad}
@@ -9,10 +9,7 @@ use Rattle.block.specs.Layout.{marker, bit}
 use Rattle.block.specs.Parts.{hidden}
 use Rattle.wording.specs.declared.Command.{Command}
 use Rattle.wording.specs.declared.Command.TheVariants.{Relay, Iel, HeadMask, Target, Limit, Mode, Stepping, Multiplexers, DirectionWindow, EnergyWindow}
-use Rattle.wording.specs.declared.Wrote.{Wrote}
-use Rattle.wording.specs.declared.Wrote.TheVariants.{Words, Refused}
-use Rattle.wording.specs.declared.Meant.{Meant}
-use Rattle.wording.specs.declared.Meant.TheVariants as meant
+use Rattle.wording.specs.Shapes.{Wrote, Meant}
 use Rattle.wording.specs.Refusals.{number_of}
 
 -- the first number whose condition holds, and 0 if none does
@@ -101,9 +98,9 @@ of_write c out = (wide c, 25) ∷ (ltb (length out) (need c), 26) ∷ []
 
 -- the number that the writer and the reader tell, and 0 if they refuse nothing
 abbrev pub write_number : Wrote → ℕ
-write_number (Words n) = 0
-write_number (Refused why) = number_of why
+write_number (Ok n) = 0
+write_number (Err why) = number_of why
 
 abbrev pub read_number : Meant → ℕ
-read_number (meant.Is c) = 0
-read_number (meant.Refused why) = number_of why
+read_number (Ok c) = 0
+read_number (Err why) = number_of why

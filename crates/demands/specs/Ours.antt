@@ -29,16 +29,16 @@ use Rattle.sending.specs.declared.Built.{Built}
 use Rattle.sending.proofs.build.Reads as build-fn
 use Rattle.sending.proofs.build.Kinds as build-kinds
 use Rattle.desk.specs.declared.Desk.{Desk}
-use Rattle.cell.specs.declared.Shown.{Shown}
+use Rattle.cell.specs.Shapes.{Shown}
 use Rattle.desk.specs.declared.Received.{Received}
 use Rattle.desk.proofs.fresh.Reads as fresh-fn
 use Rattle.desk.proofs.slot.Reads as slot-fn
 use Rattle.desk.proofs.slot.Kinds as slot-kinds
 use Rattle.desk.proofs.missed.Reads as missed-fn
 use Rattle.desk.proofs.look.Reads as look-fn
-use Rattle.block.specs.declared.Kind.{Kind}
+use Rattle.block.specs.declared.Layout.{Layout}
 use Rattle.block.specs.declared.Part.{Part}
-use Rattle.block.specs.declared.Located.{Located}
+use Rattle.block.specs.Shapes.{Located}
 use Rattle.block.specs.declared.Refusal.{Refusal as BlockRefusal}
 use Rattle.block.specs.Refusals as blocks
 use Rattle.block.specs.Parts.{place_of, locate_of, part_of}
@@ -46,16 +46,14 @@ use Rattle.block.proofs.number.Reads as block-number-fn
 use Rattle.placing.proofs.place_of.Reads as place-fn
 use Rattle.locating.proofs.locate.Reads as locate-fn
 use Rattle.locating.proofs.slice_of.Reads as slice-fn
-use Rattle.event.specs.declared.Evented.{Evented}
-use Rattle.event.specs.declared.Itemed.{Itemed}
+use Rattle.event.specs.Shapes.{Evented, Itemed}
 use Rattle.event.specs.Event.{direct_of}
 use Rattle.event.specs.Ifft.{event_of, item_of}
 use Rattle.event.proofs.direct_event.Reads as event-fn
 use Rattle.ifft.proofs.ifft_event.Reads as ifft-event-fn
 use Rattle.ifft.proofs.ifft_item.Reads as ifft-item-fn
 use Rattle.wording.specs.declared.Refusal.{Refusal as WordingRefusal}
-use Rattle.wording.specs.declared.Wrote.{Wrote}
-use Rattle.wording.specs.declared.Meant.{Meant}
+use Rattle.wording.specs.Shapes.{Wrote, Meant}
 use Rattle.wording.specs.Refusals as wording
 use Rattle.wording.specs.Written.{wrote_of, written_of}
 use Rattle.wording.specs.Meaning.{read_of}
@@ -96,7 +94,7 @@ pub record OurOutfit : Type 0 where
 -- of the code. b is the lent slice.
 pub record OurBlocks : Type 0 where
   pub locate : (κs : Lfts 1) (b : Bor (List ℕ)) (p : Part) (x : Located) → locate-fn.Post κs (b, (p, tt)) x (b, (p, tt)) → x ≡ locate_of b.now p
-  pub place : (k : Kind) (d1 d2 : ℕ) (p : Part) (x : Located) → place-fn.Post tt (k, (d1, (d2, (p, tt)))) x (k, (d1, (d2, (p, tt)))) → x ≡ place_of k d1 d2 p
+  pub place : (l : Layout) (p : Part) (x : Located) → place-fn.Post tt (l, (p, tt)) x (l, (p, tt)) → x ≡ place_of l.kind l.d1 l.d2 p
   -- a part is the slice at what was located
   pub part : (κs : Lfts 1) (b : Bor (List ℕ)) (p : Part) (l : Located) (x : Bor (List ℕ)) → locate-fn.Post κs (b, (p, tt)) l (b, (p, tt))
       → slice-fn.Post κs (b, (l, tt)) x (b, (l, tt)) → x.now ≡ part_of b.now p
@@ -110,7 +108,7 @@ pub record OurBlocks : Type 0 where
   pub block_number : (r : BlockRefusal) (n : ℕ) → block-number-fn.Post tt (r, tt) n (r, tt) → n ≡ blocks.number_of r
   -- they ask nothing
   pub asks_locate : (κs : Lfts 1) (b : Bor (List ℕ)) (p : Part) → locate-fn.Pre κs (b, (p, tt))
-  pub asks_place : (k : Kind) (d1 d2 : ℕ) (p : Part) → place-fn.Pre tt (k, (d1, (d2, (p, tt))))
+  pub asks_place : (l : Layout) (p : Part) → place-fn.Pre tt (l, (p, tt))
   pub asks_slice : (κs : Lfts 1) (b : Bor (List ℕ)) (l : Located) → slice-fn.Pre κs (b, (l, tt))
   pub asks_event : (κs : Lfts 1) (b : Bor (List ℕ)) (n : ℕ) → event-fn.Pre κs (b, (n, tt))
   pub asks_ifft_event : (κs : Lfts 1) (b : Bor (List ℕ)) (n : ℕ) → ifft-event-fn.Pre κs (b, (n, tt))

@@ -4,7 +4,7 @@ use Rattle.std.specs.Prelude.{List, ℕ, replicate}
 use Rattle.frame.specs.declared.Item.{Item}
 use Rattle.frame.specs.Items.{row_of}
 use Rattle.desk.specs.declared.Desk.{Desk}
-use Rattle.cell.specs.declared.Shown.{Shown}
+use Rattle.cell.specs.Shapes.{Shown}
 use Rattle.desk.specs.declared.Received.{Received}
 use Rattle.desk.specs.Desk.{fresh_desk, slot_of, missed_of, shows}
 use Rattle.rig.specs.declared.Rig.{Rig}

@@ -1,11 +1,10 @@
 -- Each step of a run (specs/Queue) is what the functions of `bench`, `slots`, `passing` and `losing` do to its rig and desk: said of each function's own contract
 -- (`Reads.Pre`, `Reads.Post`), so that a changed `requires` or `ensures` is seen here. So the demands, said of runs, are said of code that runs. Assumes nothing.
 -- Where a slice is lent, a is the arguments and e what the call leaves of them.
-use Rattle.std.specs.Prelude.{◌≡◌, List, [], ◌∷◌, ℕ, ◌+◌, ◌≤◌, ◌<◌, length, take, drop}
+use Rattle.std.specs.Prelude.{◌≡◌, List, [], ◌∷◌, ℕ, ◌+◌, ◌≤◌, ◌<◌, length, take, drop, Ok, Err}
 use contract.Lifetimes.{Lfts}
 use denote.Triple.Clauses.{AtExit}
 use borrow.Fn.Kinds.{Dens, ended_of}
-use Rattle.frame.specs.declared.Wrote.TheVariants as wrote
 use Rattle.frame.specs.Items.{numbered}
 use Rattle.desk.specs.declared.Answer.TheVariants as desk
 use Rattle.power.specs.declared.PanelSetting.{PanelSetting}
@@ -19,7 +18,6 @@ use Rattle.bench.proofs.set.Reads as set_fn
 use Rattle.bench.proofs.power_cut.Reads as cut-fn
 use Rattle.slots.specs.declared.Sent.{Sent}
 use Rattle.slots.specs.declared.Passed.{Passed}
-use Rattle.slots.specs.declared.Outcome.TheVariants.{NoFrame, Slot}
 use Rattle.desk.specs.declared.Answer.{Answer}
 use Rattle.slots.specs.declared.Handed.{Handed}
 use Rattle.slots.proofs.build.Reads as build-fn
@@ -60,18 +58,18 @@ Handing l f P =
 
 -- a frame written: the bench is that of the line k, and of the buffer s the 40 bytes at the place are the frame of the line l, and no other byte has moved
 abbrev pub Written : Line → Line → List ℕ → ℕ → Sent → List ℕ → Type 0
-Written l k s at t left = (t.bench ≡ bench_at k) × (t.wrote ≡ wrote.Done) × (left ≡ proved.filled l.rig s at)
+Written l k s at t left = (t.bench ≡ bench_at k) × (t.wrote ≡ Ok tt) × (left ≡ proved.filled l.rig s at)
 
 -- the same of a frame whose slot has passed, which the desk answered
 abbrev pub WrittenOn : Line → Line → List ℕ → ℕ → Answer → Passed → List ℕ → Type 0
-WrittenOn l k s at a t left = (t.bench ≡ bench_at k) × (t.outcome ≡ Slot a) × (left ≡ proved.filled l.rig s at)
+WrittenOn l k s at a t left = (t.bench ≡ bench_at k) × (t.outcome ≡ Ok a) × (left ≡ proved.filled l.rig s at)
 
 -- no room (18): bench and buffer are as they were, and no slot passes
 abbrev pub NoRoom : Line → List ℕ → Sent → List ℕ → Type 0
-NoRoom l s t left = (t.bench ≡ bench_at l) × (t.wrote ≡ wrote.Refused (numbered 18)) × (left ≡ s)
+NoRoom l s t left = (t.bench ≡ bench_at l) × (t.wrote ≡ Err (numbered 18)) × (left ≡ s)
 
 abbrev pub NoSlot : Line → List ℕ → Passed → List ℕ → Type 0
-NoSlot l s t left = (t.bench ≡ bench_at l) × (t.outcome ≡ NoFrame (numbered 18)) × (left ≡ s)
+NoSlot l s t left = (t.bench ≡ bench_at l) × (t.outcome ≡ Err (numbered 18)) × (left ≡ s)
 
 -- what happens to the rig alone
 pub record PlayedAlone : Type 0 where

@@ -1,9 +1,8 @@
 -- When a setting shows in a frame: windows and multiplexers after a spin, all else in the next frame that carries it.
 -- Keeps 01 "Command words" (accepted settings and the next frame) and 02 (ii), which takes the three blocks out of that sentence. Assumes nothing.
-use Rattle.std.specs.Prelude.{◌≡◌, true, List, [], ◌∷◌, ◌++◌, ℕ, ◌+◌, ◌/◌, ◌%◌, ◌<◌, get_or}
+use Rattle.std.specs.Prelude.{◌≡◌, true, List, [], ◌∷◌, ◌++◌, ℕ, ◌+◌, ◌/◌, ◌%◌, ◌<◌, get_or, Some}
 use Rattle.frame.specs.declared.Item.{Item}
 use Rattle.frame.specs.declared.Item.TheVariants.{Parallel, Multiplexer1, Multiplexer2, Multiplexer3, ErrorCode, DirectionStop, DirectionStart, EnergyStop, EnergyStart, LastInvalidCode, IelEnable, ReducedCounter, Bias, Relay, Ground, StopStepping, StopLimit, StopLevel, Flap1, Flap2, Flap3, IelClock, LastCheck, InvalidCount, HeadMask, StartStepping, StartLimit, StartLevel, DeflectionStepping, DeflectionLimit, DeflectionLevel}
-use Rattle.frame.specs.declared.Reading.TheVariants.{Value}
 use Rattle.frame.specs.Items.{row_of}
 use Rattle.frame.specs.Read.{is_plain, carries, read_of}
 use Rattle.rig.specs.declared.Rig.{Rig}
@@ -59,7 +58,7 @@ both_lists r = at_once r ++ (of_sensor multiplexers (0, 0) ++ (of_sensor directi
 
 -- the next frame of the rig r is read so of an item; and it carries the item
 abbrev pub Reads : Outfit → Rig → Item × ℕ → Type 0
-Reads o r x = read_of (o.frame r) (row_of x.0) ≡ Value x.1
+Reads o r x = read_of (o.frame r) (row_of x.0) ≡ Some x.1
 
 abbrev pub Carries : Rig → Item × ℕ → Type 0
 Carries r x = carries (row_of x.0) r.sending.next ≡ true

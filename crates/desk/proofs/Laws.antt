@@ -5,7 +5,7 @@ use mathlib.Core.List.{List}
 use Prim.Native.Nat.{ℕ}
 use lib.ListN.{length, replicate}
 use borrow.Author.Tests.{ne_eqb}
-use Rattle.frame.specs.declared.Arrived.TheVariants.{Whole}
+use Rattle.frame.specs.Shapes.{whole as whole_frame}
 use Rattle.frame.specs.Items.{numbered}
 use Rattle.frame.specs.Write.{frame_of}
 use Rattle.frame.specs.Read.{arrived_of, all_are}
@@ -34,11 +34,11 @@ module _ (d : Desk) where
   unfolding slot_of arrived_of all_are
   fill_ff_lem = refl
 
-  heard_whole : (f : List ℕ) (i b : ℕ) → arrived_of f ≡ Whole i b → slot_of d f ≡ answered Heard (heard_of d f)
+  heard_whole : (f : List ℕ) (i b : ℕ) → arrived_of f ≡ whole_frame i b → slot_of d f ≡ answered Heard (heard_of d f)
   unfolding slot_of
   heard_whole f i b e = rw e
 
-  unread : (f g : List ℕ) (i b j c : ℕ) → Alike f g → arrived_of f ≡ Whole i b → arrived_of g ≡ Whole j c → slot_of d f ≡ slot_of d g
+  unread : (f g : List ℕ) (i b j c : ℕ) → Alike f g → arrived_of f ≡ whole_frame i b → arrived_of g ≡ whole_frame j c → slot_of d f ≡ slot_of d g
   unread f g i b j c a p q = heard_whole f i b p ∙ ap (answered Heard) (heard_same d f g a) ∙ sym (heard_whole g j c q)
 
 pub laws : Laws

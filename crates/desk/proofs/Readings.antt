@@ -1,5 +1,6 @@
 -- The reading of an item by its kind: plain, or spread over frames.
 -- Assumes nothing.
+use Rattle.std.specs.Prelude.{Some, None}
 use mathlib.Core.Path.{◌≡◌, refl}
 use mathlib.Core.Bool.{true, false}
 use mathlib.Core.List.{List}
@@ -14,9 +15,8 @@ use Rattle.base.proofs.Table.{below}
 use Rattle.frame.specs.Items.{items}
 use Rattle.frame.specs.Read.{index_of, carries, period_of, phase_of, born_of, is_plain, read_of}
 use Rattle.frame.proofs.Rows.{spread_rows}
-use Rattle.half.specs.declared.Half.{Half}
-use Rattle.half.specs.declared.SoFar.{SoFar}
-use Rattle.half.specs.declared.SoFar.TheVariants.{None, Bytes}
+use Rattle.half.specs.Shapes.{Half}
+use Rattle.half.specs.Shapes.{SoFar}
 use Rattle.half.specs.Half.{born_at, grown_of, spread_of, half_at}
 use Rattle.bringing.specs.Bringing.{plain_of, told_by}
 use Rattle.desk.specs.Desk.{reading_of, half_after}
@@ -52,7 +52,7 @@ half_is half f i b p q = rw (p, q)
 -- no reading is older than a cell can hold
 born_fits : (a : ℕ) → a ≤ ceiling → (s : SoFar) → Fits (born_at (frames a) s)
 born_fits a h None = tt
-born_fits a h (Bytes v) = h
+born_fits a h (Some v) = h
 
 born_lt : (k : ℕ) → k < items → born_of k < 4
 born_lt k h = ltb→lt _ _ (below (λ (j : ℕ). ltb (born_of j) 4) items tt k h)

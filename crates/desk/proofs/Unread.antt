@@ -1,5 +1,6 @@
 -- Of two whole frames that differ in unread bits alone the desk makes the same: each reading is, and what is half read.
 -- Assumes nothing.
+use Rattle.std.specs.Prelude.{None}
 use mathlib.Core.Path.{◌≡◌, refl, sym, ap, ◌∙◌}
 use mathlib.Core.Bool.{Bool, true, false, ◌||◌}
 use mathlib.Core.List.{List}
@@ -16,9 +17,7 @@ use Rattle.frame.specs.Laws.{spreads, byte39, Alike}
 use Rattle.frame.proofs.Tells.{pick_same}
 use Rattle.frame.proofs.Rows.{spread_rows}
 use Rattle.frame.proofs.Unread.{index_same, read_same, spread_same}
-use Rattle.half.specs.declared.Half.{Half}
-use Rattle.half.specs.declared.Half.TheVariants.{Nothing}
-use Rattle.cell.specs.declared.Shown.TheVariants.{Unknown}
+use Rattle.half.specs.Shapes.{Half}
 use Rattle.desk.specs.declared.Desk.{Desk}
 use Rattle.half.specs.Half.{born_at, grown_of, kept_at, partly}
 use Rattle.bringing.specs.Bringing.{plain_of}
@@ -43,7 +42,7 @@ module _ (f g : List ℕ) (a : Alike f g) (half : Half) where
   spread_row : (k : ℕ) → k < items → is_plain k ≡ false → reading_of half f k ≡ reading_of half g k
   spread_row k h n =
       sym (spread_is half f (index_of f) (byte39 f) k refl refl (once k h n) n)
-      ∙ by_spread (λ (i : ℕ). eqb i (phase_of k)) (λ (i b : ℕ). born_at (frames (born_of k)) (grown_of half i b)) Unknown
+      ∙ by_spread (λ (i : ℕ). eqb i (phase_of k)) (λ (i b : ℕ). born_at (frames (born_of k)) (grown_of half i b)) None
       (λ i e. ap spreads (eqb-true i (phase_of k) e) ∙ spread_rows (λ k. spreads (phase_of k) ≡ true) refl refl k h n)
       ∙ spread_is half g (index_of g) (byte39 g) k refl refl (once k h n) n
 
@@ -54,7 +53,7 @@ module _ (f g : List ℕ) (a : Alike f g) (half : Half) where
 
   half_same : half_after half f ≡ half_after half g
   unfolding half_after
-  half_same = by_spread partly (λ (i b : ℕ). kept_at i (grown_of half i b)) Nothing partly_spreads
+  half_same = by_spread partly (λ (i b : ℕ). kept_at i (grown_of half i b)) None partly_spreads
 
 pub heard_same : (d : Desk) (f g : List ℕ) → Alike f g → heard_of d f ≡ heard_of d g
 heard_same d f g a =

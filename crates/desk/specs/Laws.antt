@@ -2,7 +2,7 @@
 -- Assumes nothing.
 use Rattle.std.specs.Prelude.{◌≡◌, List, ℕ, ◌<◌, length, get_or, replicate}
 use Rattle.frame.specs.declared.Held.{Held}
-use Rattle.frame.specs.declared.Arrived.TheVariants.{Whole}
+use Rattle.frame.specs.Shapes.{whole as whole_frame}
 use Rattle.frame.specs.Items.{items, numbered}
 use Rattle.frame.specs.Write.{frame_of}
 use Rattle.frame.specs.Read.{arrived_of}
@@ -28,7 +28,7 @@ pub record Laws : Type 0 where
   -- every frame that a rig builds is heard
   pub built : (d : Desk) (h : Held) (i l : ℕ) → slot_of d (frame_of h i l) ≡ answered Heard (heard_of d (frame_of h i l))
   -- of two whole frames that differ in unread bits alone the desk makes the same
-  pub unread : (d : Desk) (f g : List ℕ) (i b j c : ℕ) → Alike f g → arrived_of f ≡ Whole i b → arrived_of g ≡ Whole j c → slot_of d f ≡ slot_of d g
+  pub unread : (d : Desk) (f g : List ℕ) (i b j c : ℕ) → Alike f g → arrived_of f ≡ whole_frame i b → arrived_of g ≡ whole_frame j c → slot_of d f ≡ slot_of d g
   -- item by item: a miss makes it one slot older; a whole frame shows what it brings, else the same
   pub at_miss : (d : Desk) (k : ℕ) → k < items → shows (missed_of d) k ≡ aged_of (shows d k)
   pub at_frame : (d : Desk) (f : List ℕ) (k : ℕ) → k < items → shows (heard_of d f) k ≡ latest_of (reading_of d.half f k) (shows d k)

@@ -6,8 +6,7 @@ use Prim.Native.Nat.{ℕ}
 use contract.Lifetimes.{Lfts}
 use denote.Ref.{Bor}
 use Rattle.base.proofs.Single.{same}
-use Rattle.event.specs.declared.Entry.{Entry}
-use Rattle.event.specs.declared.Evented.{Evented}
+use Rattle.event.specs.Shapes.{Entry, Evented}
 use Rattle.event.proofs.event_in.Reads as event-in
 use Rattle.event.proofs.direct_event.Reads as direct-event
 

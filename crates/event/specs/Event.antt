@@ -1,6 +1,6 @@
 -- Direct events (01, "Data blocks"; G 2.1 and the table of D in 2.2.3).
 -- Assumes nothing.
-use Rattle.std.specs.Prelude.{Bool, true, ◌&&◌, List, [], ◌∷◌, ◌++◌, ℕ, ◌+◌, ◌-◌, ◌*◌, ◌/◌, ◌%◌, leb, ltb, length, get_or}
+use Rattle.std.specs.Prelude.{Bool, true, ◌&&◌, List, [], ◌∷◌, ◌++◌, ℕ, ◌+◌, ◌-◌, ◌*◌, ◌/◌, ◌%◌, leb, ltb, length, get_or, Ok, Err}
 use Rattle.base.specs.Pick.{pick}
 use Rattle.block.specs.declared.Refusal.TheVariants.{Beyond, Hidden}
 use Rattle.block.specs.declared.Kind.{Kind}
@@ -12,10 +12,7 @@ use Rattle.block.specs.Parts.{hidden}
 use Rattle.event.specs.declared.Direction.{Direction}
 use Rattle.event.specs.declared.Direction.TheVariants.{Head, HeadOnly, Unknown}
 use Rattle.event.specs.declared.Event.{Event}
-use Rattle.event.specs.declared.Entry.{Entry}
-use Rattle.event.specs.declared.Entry.TheVariants as E
-use Rattle.event.specs.declared.Evented.{Evented}
-use Rattle.event.specs.declared.Evented.TheVariants.{Is, Refused}
+use Rattle.event.specs.Shapes.{Entry, Evented}
 
 -- D of a direction: head and finer direction (0-11), head alone (12-14), unknown (15); heads 1 to 3, finer directions 0 to 3
 abbrev pub d_of : Direction → ℕ
@@ -48,8 +45,8 @@ event_at b at = event_from (get_or b at 0) (get_or b (at + 1) 0) (get_or b (at +
 
 -- the event at an entry, or why there is none; 22 where its three bytes are not all there
 abbrev pub event_in : List ℕ → Entry → Evented
-event_in b (E.At at) = pick (leb (at + 3) (length b)) (Is (event_at b at)) (Refused Beyond)
-event_in b (E.Refused r) = Refused r
+event_in b (Ok at) = pick (leb (at + 3) (length b)) (Ok (event_at b at)) (Err Beyond)
+event_in b (Err r) = Err r
 
 -- as many as fill their part: 20 in NM, 106 in BM1
 abbrev pub events_in : Kind → ℕ
@@ -62,4 +59,4 @@ direct_tests b n =
     ++ (leb (events_in (kind_of b)) n, Beyond) ∷ (hidden DirectEvents (first b) (second b (kind_of b)), Hidden) ∷ []
 
 unfoldable pub direct_of : List ℕ → ℕ → Evented
-direct_of b n = unless Refused (direct_tests b n) (Is (event_at b ((row_in (kind_of b) DirectEvents).at + 3 * n)))
+direct_of b n = unless Err (direct_tests b n) (Ok (event_at b ((row_in (kind_of b) DirectEvents).at + 3 * n)))

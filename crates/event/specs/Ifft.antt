@@ -1,17 +1,15 @@
 -- The IFFT block, bytes 20h-11Fh (01, "Data blocks" and 24 of "What the numbers mean"; G 2.2.1 and 2.2.3).
 -- Assumes nothing.
-use Rattle.std.specs.Prelude.{Bool, true, false, not, ◌||◌, List, [], ◌∷◌, ◌++◌, ℕ, ◌+◌, ◌*◌, ◌%◌, eqb, leb, ltb, get_or}
+use Rattle.std.specs.Prelude.{Bool, true, false, not, ◌||◌, List, [], ◌∷◌, ◌++◌, ℕ, ◌+◌, ◌*◌, ◌%◌, eqb, leb, ltb, get_or, Ok, Err}
 use Rattle.std.specs.Int.Count.{ones}
 use Rattle.block.specs.declared.Refusal.TheVariants.{Beyond, NotIfft}
 use Rattle.block.specs.declared.Kind.{Kind}
 use Rattle.block.specs.declared.Kind.TheVariants.{Nm, Bm1}
 use Rattle.block.specs.Refusals.{Tests, unless}
 use Rattle.block.specs.Layout.{bit, kind_of, first, block_tests}
-use Rattle.event.specs.declared.Evented.{Evented}
-use Rattle.event.specs.declared.Evented.TheVariants as E
+use Rattle.event.specs.Shapes.{Evented}
 use Rattle.event.specs.declared.MatrixItem.{MatrixItem}
-use Rattle.event.specs.declared.Itemed.{Itemed}
-use Rattle.event.specs.declared.Itemed.TheVariants as I
+use Rattle.event.specs.Shapes.{Itemed}
 use Rattle.event.specs.Event.{event_at}
 
 abbrev pub is_nm : Kind → Bool
@@ -34,7 +32,7 @@ ifft_tests b n from most =
 
 -- an event is a direct event: 85 of them at most, at 20h on
 unfoldable pub event_of : List ℕ → ℕ → Evented
-event_of b n = unless E.Refused (ifft_tests b n 5 85) (E.Is (event_at b (0x020 + 3 * n)))
+event_of b n = unless Err (ifft_tests b n 5 85) (Ok (event_at b (0x020 + 3 * n)))
 
 -- a matrix item is two 16-bit words, high byte first
 abbrev pub word_at : List ℕ → ℕ → ℕ
@@ -51,4 +49,4 @@ item_at b at =
 
 -- 64 of them at most, at 20h on
 unfoldable pub item_of : List ℕ → ℕ → Itemed
-item_of b n = unless I.Refused (ifft_tests b n 6 64) (I.Is (item_at b (0x020 + 4 * n)))
+item_of b n = unless Err (ifft_tests b n 6 64) (Ok (item_at b (0x020 + 4 * n)))

@@ -6,7 +6,7 @@ ghost use Rattle.std.specs.Prelude.{◌≡◌};
 ghost use Rattle.event.specs.Event.{direction_of, event_from, event_in, events_in, direct_of};
 ghost use Rattle.event.specs.Steps.{direct_at};
 
-use block::{Kind, Layout, Located, Part, Refusal};
+use block::{Kind, Layout, Part, Refusal};
 
 // A head 1 to 3 with its finer direction 0 to 3, a head alone, or unknown.
 #[derive(Clone, Copy)]
@@ -24,32 +24,12 @@ pub struct Event {
     pub direction: Direction,
 }
 
-// What is asked for by number, or why it is refused.
-#[derive(Clone, Copy)]
-pub enum Evented {
-    Is(Event),
-    Refused(Refusal),
-}
-
 // Two words of the compressed matrix, marked bad where the parity of the second is wrong.
 #[derive(Clone, Copy)]
 pub struct MatrixItem {
     pub first: u16,
     pub second: u16,
     pub good: bool,
-}
-
-#[derive(Clone, Copy)]
-pub enum Itemed {
-    Is(MatrixItem),
-    Refused(Refusal),
-}
-
-// Where what is asked for by number begins, or why it is refused.
-#[derive(Clone, Copy)]
-pub enum Entry {
-    At(usize),
-    Refused(Refusal),
 }
 
 fn direction_of(d: u8) -> Direction
@@ -78,53 +58,41 @@ fn event_from(energy: u8, time: u8, third: u8) -> Event
 }
 
 // The event at an entry; 22 where its three bytes are not all there.
-pub fn event_in(b: &[u8], entry: Entry) -> Evented
+pub fn event_in(b: &[u8], entry: Result<usize, Refusal>) -> Result<Event, Refusal>
     ensures { result ≡ event_in b.now entry }
 {
-    match entry {
-        Entry::At(at) => {
-            if base::has_room(at, 3, b.len()) {
-                return Evented::Is(event_from(b[at], b[at + 1], b[at + 2]));
-            }
-            Evented::Refused(Refusal::Beyond)
-        }
-        Entry::Refused(r) => Evented::Refused(r),
+    let at = entry?;
+    match b.get(at..) {
+        Some([energy, time, third, ..]) => Ok(event_from(*energy, *time, *third)),
+        _ => Err(Refusal::Beyond),
     }
 }
 
 // How many direct events fill their part where nothing hides it: 20 in NM, 106 in BM1.
+#[tactic(auto, using(crate::proofs::Laws::counted, crate::proofs::Laws::always))]
 fn events_in(kind: Kind) -> usize
     ensures { result ≡ events_in kind }
 {
-    let place = placing::place_of(kind, 0, 0, Part::DirectEvents);
-    match place {
-        Located::At(_, n) => n / 3,
-        Located::Refused(_) => 0,
-    }
+    let open = Layout { kind, d1: 0, d2: 0 };
+    placing::place_of(open, Part::DirectEvents).map_or(0, |place| place.len / 3)
 }
 
-// 22 before 23: a number beyond the last is never called hidden.
-fn direct_at(b: &[u8], n: usize) -> Entry
+// Where the direct event of a number begins, or why it is refused. 22 before 23: a number beyond the last is never called hidden.
+#[tactic(auto, using(crate::proofs::Laws::direct_refused, crate::proofs::Laws::direct_beyond, crate::proofs::Laws::direct_hidden, crate::proofs::Laws::direct_found))]
+fn direct_at(b: &[u8], n: usize) -> Result<usize, Refusal>
     ensures { result ≡ direct_at b.now n }
 {
-    let layout = layout::layout_of(b);
-    match layout {
-        Layout::Bad(r) => Entry::Refused(r),
-        Layout::Is(kind, d1, d2) => {
-            if events_in(kind) <= n {
-                return Entry::Refused(Refusal::Beyond);
-            }
-            let place = placing::place_of(kind, d1, d2, Part::DirectEvents);
-            match place {
-                Located::At(at, _) => Entry::At(at + 3 * n),
-                Located::Refused(r) => Entry::Refused(r),
-            }
-        }
+    let layout = layout::layout_of(b)?;
+    if events_in(layout.kind) <= n {
+        return Err(Refusal::Beyond);
     }
+    let place = placing::place_of(layout, Part::DirectEvents)?;
+    Ok(place.at + 3 * n)
 }
 
 // The direct event of a number, from 0.
-pub fn direct_event(b: &[u8], n: usize) -> Evented
+#[tactic(auto, using(crate::proofs::Laws::direct_is))]
+pub fn direct_event(b: &[u8], n: usize) -> Result<Event, Refusal>
     ensures { result ≡ direct_of b.now n }
 {
     event_in(b, direct_at(b, n))

@@ -1,25 +1,20 @@
 // The IFFT block: events and matrix items by number, each ground on which it is refused, and the parity of an item.
 // Keeps 01 "Data blocks" (IFFT2) and rows 22 and 24 of "What the numbers mean".
 use super::direct;
-use block::{Kind, Located};
-use event::Itemed;
+use block::{Kind, Refusal};
+use event::MatrixItem;
 use std::io;
 
 // To the end of the line.
-fn say_itemed(rt: &impl Print, itemed: Itemed) -> io::Result<()> {
-    match itemed {
-        Itemed::Is(item) => {
-            printing::hex_after(rt, b" words ", u64::from(item.first), 4)?;
-            printing::hex_after(rt, b" ", u64::from(item.second), 4)?;
-            if item.good {
-                printing::text(rt, b" good")?;
-            } else {
-                printing::text(rt, b" bad")?;
-            }
+fn say_item(rt: &impl Print, answer: Result<MatrixItem, Refusal>) -> io::Result<()> {
+    match answer {
+        Ok(item) => {
+            let state = if item.good { "good" } else { "bad" };
+            print!(rt; " words {:04x} {:04x} {state}", item.first, item.second)?;
         }
-        Itemed::Refused(why) => samples::say_refused(rt, why)?,
+        Err(why) => samples::say_refused(rt, why)?,
     }
-    printing::text(rt, b"\n")
+    rt.println("")
 }
 
 // What is asked for: an event, or a matrix item.
@@ -32,12 +27,12 @@ enum Entry {
 fn say_entry(rt: &impl Print, b: &[u8], entry: Entry, n: usize) -> io::Result<()> {
     match entry {
         Entry::Event => {
-            printing::number_after(rt, b" IFFT event ", n as u64)?;
+            print!(rt; " IFFT event {n}")?;
             direct::say(rt, ifft::ifft_event(b, n))
         }
         Entry::Item => {
-            printing::number_after(rt, b" IFFT item ", n as u64)?;
-            say_itemed(rt, ifft::ifft_item(b, n))
+            print!(rt; " IFFT item {n}")?;
+            say_item(rt, ifft::ifft_item(b, n))
         }
     }
 }
@@ -56,30 +51,14 @@ fn line(
     b[5] = counter;
     b[6] = count;
     samples::say_kind(rt, kind)?;
-    printing::hex_byte_after(rt, b" descriptor1 ", d1)?;
-    printing::number_after(rt, b" counter ", u64::from(counter))?;
-    printing::number_after(rt, b" count ", u64::from(count))?;
-    say_entry(
-        rt,
-        locating::slice_of(&b, Located::At(0, block::length_of(kind))),
-        entry,
-        n,
-    )
+    print!(rt; " descriptor1 {d1:02x} counter {counter} count {count}")?;
+    say_entry(rt, &b[..block::length_of(kind)], entry, n)
 }
 
 // Descriptor 1, count and number, at a spin counter.
-fn rows(rt: &impl Print, entry: Entry, counter: u8, list: &[[usize; 3]]) -> io::Result<()> {
-    for i in 0..list.len() {
-        let row = list[i];
-        line(
-            rt,
-            Kind::Nm,
-            entry,
-            (row[0] % 256) as u8,
-            counter,
-            (row[1] % 256) as u8,
-            row[2],
-        )?;
+fn rows(rt: &impl Print, entry: Entry, counter: u8, list: &[(u8, u8, usize)]) -> io::Result<()> {
+    for (d1, count, n) in list {
+        line(rt, Kind::Nm, entry, *d1, counter, *count, *n)?;
     }
     Ok(())
 }
@@ -98,15 +77,11 @@ fn item(rt: &impl Print, second: u16) -> io::Result<()> {
     let mut b = samples::made(Kind::Nm, 0x01, 0);
     b[5] = 6;
     b[6] = 1;
-    b[0x022] = (second / 256) as u8;
-    b[0x023] = (second % 256) as u8;
-    printing::text(rt, b"NM")?;
-    say_entry(
-        rt,
-        locating::slice_of(&b, Located::At(0, 512)),
-        Entry::Item,
-        0,
-    )
+    let [high, low] = second.to_be_bytes();
+    b[0x022] = high;
+    b[0x023] = low;
+    rt.print("NM")?;
+    say_entry(rt, &b[..block::length_of(Kind::Nm)], Entry::Item, 0)
 }
 
 // Good or bad by the ones of the second word, the top bit included.
@@ -119,44 +94,44 @@ fn parity(rt: &impl Print, words: &[u16]) -> io::Result<()> {
 
 // The first and the last; past the last; no entry; one too many, where 24 comes before 22; bit 0 clear; bit 2 set; and bits 1 and 3, which hide
 // parts, and not the IFFT block.
+fn events(rt: &impl Print) -> io::Result<()> {
+    let list = [
+        (1, 85, 0),
+        (1, 85, 84),
+        (1, 85, 85),
+        (1, 85, usize::MAX),
+        (1, 0, 0),
+        (1, 86, 0),
+        (1, 86, 86),
+        (0, 85, 0),
+        (5, 85, 0),
+        (11, 85, 0),
+    ];
+    rows(rt, Entry::Event, 5, &list)?;
+    counters(rt, Entry::Event, 5, 85)
+}
+
+// The same of the items.
+fn items(rt: &impl Print) -> io::Result<()> {
+    let list = [
+        (1, 64, 0),
+        (1, 64, 63),
+        (1, 64, 64),
+        (1, 64, usize::MAX),
+        (1, 0, 0),
+        (1, 65, 0),
+        (1, 65, 65),
+        (0, 64, 0),
+        (5, 64, 0),
+        (11, 64, 0),
+    ];
+    rows(rt, Entry::Item, 6, &list)?;
+    counters(rt, Entry::Item, 6, 64)
+}
+
 pub(crate) fn run(rt: &impl Print) -> io::Result<()> {
-    let max = usize::MAX;
-    rows(
-        rt,
-        Entry::Event,
-        5,
-        &[
-            [1, 85, 0],
-            [1, 85, 84],
-            [1, 85, 85],
-            [1, 85, max],
-            [1, 0, 0],
-            [1, 86, 0],
-            [1, 86, 86],
-            [0, 85, 0],
-            [5, 85, 0],
-            [11, 85, 0],
-        ],
-    )?;
-    counters(rt, Entry::Event, 5, 85)?;
-    rows(
-        rt,
-        Entry::Item,
-        6,
-        &[
-            [1, 64, 0],
-            [1, 64, 63],
-            [1, 64, 64],
-            [1, 64, max],
-            [1, 0, 0],
-            [1, 65, 0],
-            [1, 65, 65],
-            [0, 64, 0],
-            [5, 64, 0],
-            [11, 64, 0],
-        ],
-    )?;
-    counters(rt, Entry::Item, 6, 64)?;
+    events(rt)?;
+    items(rt)?;
     parity(
         rt,
         &[

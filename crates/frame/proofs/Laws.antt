@@ -1,5 +1,6 @@
 -- The laws of the frame hold.
 -- Assumes nothing.
+use Rattle.std.specs.Prelude.{Some, None}
 use mathlib.Core.Path.{◌≡◌, refl, ap, ◌∙◌}
 use mathlib.Core.Bool.{true, false}
 use Prim.Native.Nat.{ℕ, ◌%◌}
@@ -7,7 +8,6 @@ use native.Mathlib.Nat.{mod-eq_of_lt}
 use lib.Dec.{eqb}
 use borrow.Author.Tests.{eqb-true}
 use Rattle.frame.specs.declared.Held.{Held}
-use Rattle.frame.specs.declared.Reading.TheVariants.{Nothing, Value}
 use Rattle.frame.specs.Items.{held_at}
 use Rattle.frame.specs.Write.{frame_of}
 use Rattle.frame.specs.Read.{rem_of, phase_of, is_plain, carries, index_of, read_of}
@@ -25,17 +25,17 @@ module _ (h : Held) (i l k : ℕ) (b : is_plain k ≡ true) where
   carried =
       ap (λ (n : ℕ). eqb n (phase_of k)) (rounds k (plain_lt k b) (i % 32) ∙ rounds k (plain_lt k b) i)
 
-  back : carries k i ≡ true → read_of (frame_of h i l) k ≡ Value (held_at h k % rem_of k)
+  back : carries k i ≡ true → read_of (frame_of h i l) k ≡ Some (held_at h k % rem_of k)
   unfolding read_of
-  back e = unfold frame_of in rw (b, carried ∙ e) (ap Value (field_back h i l k b (eqb-true _ _ e)))
+  back e = unfold frame_of in rw (b, carried ∙ e) (ap Some (field_back h i l k b (eqb-true _ _ e)))
 
-  exact : Fits h → carries k i ≡ true → read_of (frame_of h i l) k ≡ Value (held_at h k)
+  exact : Fits h → carries k i ≡ true → read_of (frame_of h i l) k ≡ Some (held_at h k)
   exact f e = back e ∙ value (mod-eq_of_lt (f.plain k b))
     where
-      value : {m n : ℕ} → m ≡ n → Value m ≡ Value n
-      value q = ap Value q
+      value : {m n : ℕ} → m ≡ n → Some m ≡ Some n
+      value q = ap Some q
 
-  silent : carries k i ≡ false → read_of (frame_of h i l) k ≡ Nothing
+  silent : carries k i ≡ false → read_of (frame_of h i l) k ≡ None
   unfolding read_of
   silent e = unfold frame_of in rw (b, carried ∙ e)
 

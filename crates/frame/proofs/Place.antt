@@ -1,5 +1,6 @@
 -- The laws of `wrote_of` and `written`: where there is no room, where there is, and from the part that is lent to the whole.
 -- Assumes nothing.
+use Rattle.std.specs.Prelude.{Ok, Err}
 use mathlib.Core.Path.{◌≡◌, refl, sym, ap, ◌∙◌}
 use mathlib.Core.List.{List, [], ◌++◌, append-nil}
 use Prim.Native.Nat.{ℕ, ◌+◌, ◌-◌, ◌≤◌, ◌<◌}
@@ -11,7 +12,6 @@ use lib.ListN.{length, take, drop, length-drop, take-append-drop, drop_of_length
 use lib.Seq.{take_all, drop-drop}
 use Rattle.frame.specs.declared.Held.{Held}
 use Rattle.frame.specs.declared.Refusal.TheVariants.{NoRoom}
-use Rattle.frame.specs.declared.Wrote.TheVariants.{Done, Refused}
 use Rattle.frame.specs.Write.{frame_of, wrote_of, written}
 
 module _ (h : Held) (i l : ℕ) where
@@ -19,11 +19,11 @@ module _ (h : Held) (i l : ℕ) where
   unfolding frame_of
   frame_length = refl
 
-  pub short : (at : ℕ) (b : List ℕ) → length b < at + 40 → (wrote_of at b ≡ Refused NoRoom) × (written h i l at b ≡ b)
+  pub short : (at : ℕ) (b : List ℕ) → length b < at + 40 → (wrote_of at b ≡ Err NoRoom) × (written h i l at b ≡ b)
   short at b n = simp (lt-ltb _ _ n) (refl, refl)
 
   pub room : (at : ℕ) (b : List ℕ) → at + 40 ≤ length b
-      → (wrote_of at b ≡ Done) × (written h i l at b ≡ take at b ++ (frame_of h i l ++ drop (at + 40) b))
+      → (wrote_of at b ≡ (Ok tt)) × (written h i l at b ≡ take at b ++ (frame_of h i l ++ drop (at + 40) b))
   room at b n = simp (le-ltb _ _ n) (refl, refl)
 
   -- the writer's answer and bytes at the part from `at` on are those of the whole

@@ -11,7 +11,7 @@ use lib.ListN.{get_or, replicate}
 use borrow.Author.Tests.{ne_eqb, eqb-true, eqb-false}
 use Rattle.base.specs.Pick.{pick}
 use Rattle.frame.specs.declared.Held.{Held}
-use Rattle.frame.specs.declared.Arrived.TheVariants.{Whole}
+use Rattle.frame.specs.Shapes.{whole as whole_frame}
 use Rattle.frame.specs.declared.Item.TheVariants.{Parallel, Multiplexer1, Multiplexer2, Multiplexer3, ErrorCode, DirectionStop, DirectionStart, EnergyStop, EnergyStart, LastInvalidCode, IelEnable, ReducedCounter, Bias, Relay, Ground, StopStepping, StopLimit, StopLevel, Flap1, Flap2, Flap3, IelClock, LastCheck, InvalidCount, HeadMask, StartStepping, StartLimit, StartLevel, DeflectionStepping, DeflectionLimit, DeflectionLevel}
 use Rattle.frame.specs.Items.{row_of, held_at}
 use Rattle.frame.specs.Write.{quarter_of, ground_at, mux_of, frame_of, latch_of}
@@ -128,7 +128,7 @@ module _ (h : Held) (i l : ℕ) where
   pub stays : (i % 32 ≡ 0 → ⊥) → (i % 32 ≡ 27 → ⊥) → latch_of h i l ≡ l
   stays n m = rw (ne_eqb (i % 32) 0 n, ne_eqb (i % 32) 27 m)
 
-  pub whole : arrived_of (frame_of h i l) ≡ Whole (i % 32) (byte39 (frame_of h i l))
+  pub whole : arrived_of (frame_of h i l) ≡ whole_frame (i % 32) (byte39 (frame_of h i l))
   unfolding arrived_of frame_of all_are
   whole =
       let m : i % 32 % 32 ≡ i % 32 = omega arith in

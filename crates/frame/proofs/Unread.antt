@@ -1,5 +1,6 @@
 -- Two frames that differ in unread bits alone give the same readings: each row's word lies under the masks.
 -- Assumes nothing.
+use Rattle.std.specs.Prelude.{Some}
 use mathlib.Core.Path.{◌≡◌, refl, sym, ap, ◌∙◌}
 use mathlib.Core.Bool.{true}
 use mathlib.Core.List.{List}
@@ -9,7 +10,6 @@ use native.Mathlib.Omega.{arith}
 use lib.Bits.{bit_and, and_shr, and_mod, and_mask}
 use lib.ListN.{get_or}
 use borrow.Author.Tests.{eq-eqb, eqb-true}
-use Rattle.frame.specs.declared.Reading.TheVariants.{Value}
 use Rattle.frame.specs.Read.{period_of, phase_of, is_plain, carries, index_of, field_of, read_of}
 use Rattle.frame.specs.Laws.{byte39, spreads, mask37, mask39, masks, Alike}
 use Rattle.frame.proofs.Each.{◌&◌, end}
@@ -99,8 +99,8 @@ module _ (f g : List ℕ) (a : Alike f g) where
       (λ t. pick_same (carries k (index_of f)) (λ c. value (field_same k t (eqb-true _ _ c))) (λ n. refl))
       (λ n. refl))
     where
-      value : {m n : ℕ} → m ≡ n → Value m ≡ Value n
-      value e = ap Value e
+      value : {m n : ℕ} → m ≡ n → Some m ≡ Some n
+      value e = ap Some e
 
   pub spread_same : spreads (index_of f) ≡ true → byte39 f ≡ byte39 g
   spread_same e = byte_same 39 (rw e)

@@ -1,13 +1,12 @@
 -- What is true of every frame (01, "The 40-byte frame"), said once over the rows: what is written is what is read, and nothing else is told.
 -- The bytes (`frame_of`) and the table (`rows`) are written apart; these laws tie them. Assumes nothing.
-use Rattle.std.specs.Prelude.{◌≡◌, Bool, true, false, ◌&&◌, List, [], ◌∷◌, ℕ, ◌+◌, ◌*◌, ◌%◌, ◌^◌, ◌<◌, eqb, ltb, length, get_or, replicate}
+use Rattle.std.specs.Prelude.{◌≡◌, Bool, true, false, ◌&&◌, List, [], ◌∷◌, ℕ, ◌+◌, ◌*◌, ◌%◌, ◌^◌, ◌<◌, eqb, ltb, length, get_or, replicate, Some, None}
 use Rattle.std.specs.Int.Bits.{bit_and}
 use Rattle.base.specs.Pick.{pick}
 use Rattle.frame.specs.declared.Held.{Held}
 use Rattle.frame.specs.declared.Item.{Item}
 use Rattle.frame.specs.declared.Item.TheVariants.{LongCounter, FreeTime}
-use Rattle.frame.specs.declared.Arrived.TheVariants.{Whole}
-use Rattle.frame.specs.declared.Reading.TheVariants.{Nothing, Value}
+use Rattle.frame.specs.Shapes.{whole as whole_frame}
 use Rattle.frame.specs.declared.Refusal.TheVariants.{NotForty, NoRoom}
 use Rattle.frame.specs.Items.{items, row_of, held_at, number_of}
 use Rattle.frame.specs.Write.{latch_of, frame_of}
@@ -78,9 +77,9 @@ pub record Laws : Type 0 where
   -- all items are plain but the two that are spread over frames
   pub plain : (x : Item) → (x ≡ LongCounter → ⊥) → (x ≡ FreeTime → ⊥) → is_plain (row_of x) ≡ true
   -- each plain item that a frame carries reads back, modulo its width; of any other the frame says nothing
-  pub back : (h : Held) (i l k : ℕ) → is_plain k ≡ true → carries k i ≡ true → read_of (frame_of h i l) k ≡ Value (held_at h k % rem_of k)
-  pub exact : (h : Held) (i l k : ℕ) → Fits h → is_plain k ≡ true → carries k i ≡ true → read_of (frame_of h i l) k ≡ Value (held_at h k)
-  pub silent : (h : Held) (i l k : ℕ) → is_plain k ≡ true → carries k i ≡ false → read_of (frame_of h i l) k ≡ Nothing
+  pub back : (h : Held) (i l k : ℕ) → is_plain k ≡ true → carries k i ≡ true → read_of (frame_of h i l) k ≡ Some (held_at h k % rem_of k)
+  pub exact : (h : Held) (i l k : ℕ) → Fits h → is_plain k ≡ true → carries k i ≡ true → read_of (frame_of h i l) k ≡ Some (held_at h k)
+  pub silent : (h : Held) (i l k : ℕ) → is_plain k ≡ true → carries k i ≡ false → read_of (frame_of h i l) k ≡ None
   -- a frame that does not carry an item tells nothing of it: with that item alone changed the bytes are the same
   pub hides : (h g : Held) (i l k : ℕ) → k < items → ((j : ℕ) → (j ≡ k → ⊥) → held_at h j ≡ held_at g j) → carries k i ≡ false
       → frame_of h i l ≡ frame_of g i l
@@ -95,9 +94,9 @@ pub record Laws : Type 0 where
   pub unlatched : (h : Held) (i l m : ℕ) → spreads (i % 32) ≡ false → frame_of h i l ≡ frame_of h i m
   pub stays : (h : Held) (i l : ℕ) → (i % 32 ≡ 0 → ⊥) → (i % 32 ≡ 27 → ⊥) → latch_of h i l ≡ l
   -- 40 bytes that are neither fill are a whole frame, whoever built it
-  pub no_other : (f : List ℕ) → length f ≡ 40 → (f ≡ replicate 40 0xC0 → ⊥) → (f ≡ replicate 40 0xFF → ⊥) → arrived_of f ≡ Whole (index_of f) (byte39 f)
+  pub no_other : (f : List ℕ) → length f ≡ 40 → (f ≡ replicate 40 0xC0 → ⊥) → (f ≡ replicate 40 0xFF → ⊥) → arrived_of f ≡ whole_frame (index_of f) (byte39 f)
   -- a built frame arrives whole, and is never 40 equal bytes, but for 0
-  pub whole : (h : Held) (i l : ℕ) → arrived_of (frame_of h i l) ≡ Whole (i % 32) (byte39 (frame_of h i l))
+  pub whole : (h : Held) (i l : ℕ) → arrived_of (frame_of h i l) ≡ whole_frame (i % 32) (byte39 (frame_of h i l))
   pub no_fill : (h : Held) (i l x : ℕ) → 0 < x → frame_of h i l ≡ replicate 40 x → ⊥
   -- bits that 01 does not name are not read
   pub unread : (f g : List ℕ) → Alike f g → (k : ℕ) → (index_of f ≡ index_of g) × (read_of f k ≡ read_of g k)

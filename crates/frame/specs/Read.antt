@@ -1,11 +1,10 @@
 -- What is read out of 40 bytes: what arrived, and each plain item by one rule over one table (01, "The 40-byte frame").
 -- Assumes nothing.
-use Rattle.std.specs.Prelude.{Bool, true, false, List, [], ◌∷◌, ℕ, zero, suc, ◌+◌, ◌-◌, ◌*◌, ◌/◌, ◌%◌, ◌^◌, eqb, ltb, length, get_or}
+use Rattle.std.specs.Prelude.{Bool, true, false, List, [], ◌∷◌, ℕ, zero, suc, ◌+◌, ◌-◌, ◌*◌, ◌/◌, ◌%◌, ◌^◌, eqb, ltb, length, get_or, Some, None, Ok, Err}
 use Rattle.base.specs.Pick.{pick}
-use Rattle.frame.specs.declared.Arrived.{Arrived}
-use Rattle.frame.specs.declared.Arrived.TheVariants.{Whole, FillC0, FillFF, Refused}
-use Rattle.frame.specs.declared.Reading.{Reading}
-use Rattle.frame.specs.declared.Reading.TheVariants.{Nothing, Value}
+use Rattle.frame.specs.declared.Arrived.TheVariants.{FillC0, FillFF}
+use Rattle.frame.specs.declared.Turn.{Turn}
+use Rattle.frame.specs.Shapes.{Reading, Came, turn, whole}
 use Rattle.frame.specs.Items.{items, numbered}
 
 -- The frames that carry something: those whose index modulo `period` is `phase`.
@@ -151,19 +150,23 @@ carries k i = eqb (i % period_of k) (phase_of k)
 unfoldable pub read_of : List ℕ → ℕ → Reading
 read_of f k =
     pick (eqb (length f) 40)
-    (pick (is_plain k) (pick (carries k (index_of f)) (Value (field_of f k)) Nothing) Nothing)
-    Nothing
+    (pick (is_plain k) (pick (carries k (index_of f)) (Some (field_of f k)) None) None)
+    None
 
 -- are the bytes all b?
 unfoldable pub all_are : ℕ → List ℕ → Bool
 all_are b [] = true
 all_are b (x ∷ xs) = pick (eqb x b) (all_are b xs) false
 
+-- a frame's turn: its index, and byte 39
+abbrev pub turn_of : List ℕ → Turn
+turn_of f = turn (index_of f) (get_or f 39 0)
+
 -- 17: not 40 bytes; 40 equal bytes C0h or FFh are fill; anything else is a whole frame: its index, and byte 39
-unfoldable pub arrived_of : List ℕ → Arrived
+unfoldable pub arrived_of : List ℕ → Came
 arrived_of f =
     pick (eqb (length f) 40)
-    (pick (all_are 0xC0 f) FillC0
-    (pick (all_are 0xFF f) FillFF
-    (Whole (index_of f) (get_or f 39 0))))
-    (Refused (numbered 17))
+    (pick (all_are 0xC0 f) (Ok FillC0)
+    (pick (all_are 0xFF f) (Ok FillFF)
+    (whole (index_of f) (get_or f 39 0))))
+    (Err (numbered 17))

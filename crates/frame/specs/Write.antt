@@ -1,10 +1,9 @@
 -- The 40 bytes of a frame, byte by byte as 01 "The 40-byte frame" places them, and where in the caller's buffer they go.
 -- Level, limit and stepping of the three supplies (02 (iv)) and the relay are where the table of G chapter 4 puts them. Other bits are 0. Assumes nothing.
-use Rattle.std.specs.Prelude.{List, [], ◌∷◌, ◌++◌, ℕ, ◌+◌, ◌*◌, ◌/◌, ◌%◌, eqb, ltb, length, take, drop}
+use Rattle.std.specs.Prelude.{List, [], ◌∷◌, ◌++◌, ℕ, ◌+◌, ◌*◌, ◌/◌, ◌%◌, eqb, ltb, length, take, drop, Ok, Err}
 use Rattle.base.specs.Pick.{pick}
 use Rattle.frame.specs.declared.Held.{Held}
-use Rattle.frame.specs.declared.Wrote.{Wrote}
-use Rattle.frame.specs.declared.Wrote.TheVariants.{Done, Refused}
+use Rattle.frame.specs.Shapes.{Wrote}
 use Rattle.frame.specs.Items.{numbered}
 
 -- "a number spread over several frames is latched when its first is built": the long EDB counter at index 0, the free time at 27
@@ -66,7 +65,7 @@ frame_of h i l =
 
 -- 18: fewer than 40 bytes from the named place on, or the place past the end; then nothing changes
 abbrev pub wrote_of : ℕ → List ℕ → Wrote
-wrote_of at b = pick (ltb (length b) (at + 40)) (Refused (numbered 18)) Done
+wrote_of at b = pick (ltb (length b) (at + 40)) (Err (numbered 18)) (Ok tt)
 
 abbrev pub written : Held → ℕ → ℕ → ℕ → List ℕ → List ℕ
 written h i l at b = pick (ltb (length b) (at + 40)) b (take at b ++ (frame_of h i l ++ drop (at + 40) b))

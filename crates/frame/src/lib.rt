@@ -90,26 +90,19 @@ pub enum Refusal {
     NoRoom,
 }
 
+// A frame's turn in the round of 32: its index, and byte 39, whose meaning goes by the index.
 #[derive(Clone, Copy)]
-pub enum Wrote {
-    Done,
-    Refused(Refusal),
+pub struct Turn {
+    pub index: u8,
+    pub byte39: u8,
 }
 
-// What arrived in a slot: a whole frame (its index, and byte 39), or fill.
+// What arrived in a slot, where it is 40 bytes: a whole frame, or fill.
 #[derive(Clone, Copy)]
 pub enum Arrived {
-    Whole(u8, u8),
+    Whole(Turn),
     FillC0,
     FillFF,
-    Refused(Refusal),
-}
-
-// What a frame tells of an item.
-#[derive(Clone, Copy)]
-pub enum Reading {
-    Nothing,
-    Value(u32),
 }
 
 // The number of a refusal (01, "What the numbers mean").

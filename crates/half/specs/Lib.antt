@@ -1,2 +1,3 @@
 -- A number spread over frames.
+pub mod Shapes
 pub mod Half

@@ -6,67 +6,36 @@ ghost use Rattle.std.specs.Prelude.{◌≡◌, ◌<◌};
 ghost use Rattle.half.specs.Half.{begins, grown_of, born_at, spread_of, kept_at, partly, half_at};
 
 use base::Frames;
-use cell::Shown;
+use cell::Known;
+use frame::Turn;
 
 // What is half read of a number spread over frames: the index that must come next, and the bytes so far.
 #[derive(Clone, Copy)]
-pub enum Half {
-    Nothing,
-    Part(u8, u32),
-}
-
-// The number that the bytes so far make, the last frame's included.
-#[derive(Clone, Copy)]
-pub enum SoFar {
-    None,
-    Bytes(u32),
+pub struct Part {
+    pub next: u8,
+    pub bytes: u32,
 }
 
 // Whether a spread number begins at the frame of index i.
 fn is_first(i: u8) -> bool
     ensures { result ≡ begins i }
 {
-    i == 0 || i == 27
+    matches!(i, 0 | 27)
 }
 
-// The bytes so far of the spread number, with the byte b of the frame of index i: it begins only at its first frame.
-fn grown(half: Half, i: u8, b: u8) -> SoFar
-    ensures { result ≡ grown_of half i b }
+// The bytes so far of the spread number, with that of the frame of this turn: it begins only at its first frame.
+fn grown(half: Option<Part>, turn: Turn) -> Option<u32>
+    ensures { result ≡ grown_of half turn.index turn.byte39 }
 {
-    if is_first(i) {
-        return SoFar::Bytes(base::wide(b));
+    let byte = u32::from(turn.byte39);
+    if is_first(turn.index) {
+        return Some(byte);
     }
-    match half {
-        Half::Nothing => SoFar::None,
-        Half::Part(n, acc) => {
-            if n == i {
-                SoFar::Bytes(acc % 0x1000000 * 256 + base::wide(b))
-            } else {
-                SoFar::None
-            }
-        }
+    let part = half?;
+    if part.next != turn.index {
+        return None;
     }
-}
-
-// A complete number at age a.
-fn born(s: SoFar, a: Frames) -> Shown
-    ensures { result ≡ born_at a s }
-{
-    match s {
-        SoFar::None => Shown::Unknown,
-        SoFar::Bytes(v) => Shown::Known(v, a),
-    }
-}
-
-// What is half read once the frame of index i has brought s.
-fn kept(s: SoFar, i: u8) -> Half
-    requires { i < 32 }
-    ensures { result ≡ kept_at i s }
-{
-    match s {
-        SoFar::None => Half::Nothing,
-        SoFar::Bytes(v) => Half::Part(i + 1, v),
-    }
+    Some(part.bytes % 0x1000000 * 256 + byte)
 }
 
 // Whether a spread number is half read after the frame of index i.
@@ -76,22 +45,26 @@ fn is_partly(i: u8) -> bool
     i < 3 || i == 27
 }
 
-// What is half read after a whole frame of index i with byte 39 b.
-pub fn half_after(half: Half, i: u8, b: u8) -> Half
-    ensures { result ≡ half_at half i b }
+// What is half read after a whole frame of this turn.
+pub fn half_after(half: Option<Part>, turn: Turn) -> Option<Part>
+    ensures { result ≡ half_at half turn.index turn.byte39 }
 {
-    if is_partly(i) {
-        return kept(grown(half, i, b), i);
+    if is_partly(turn.index) {
+        return Some(Part {
+            next: turn.index + 1,
+            bytes: grown(half, turn)?,
+        });
     }
-    Half::Nothing
+    None
 }
 
 // A spread number, complete at the frame of index `last`, its first frame then of that age.
-pub fn spread(half: Half, i: u8, b: u8, last: u8, age: Frames) -> Shown
-    ensures { result ≡ spread_of half i b last age }
+pub fn spread(half: Option<Part>, turn: Turn, last: u8, age: Frames) -> Option<Known>
+    ensures { result ≡ spread_of half turn.index turn.byte39 last age }
 {
-    if i == last {
-        return born(grown(half, i, b), age);
+    if turn.index != last {
+        return None;
     }
-    Shown::Unknown
+    let value = grown(half, turn)?;
+    Some(Known { value, age })
 }

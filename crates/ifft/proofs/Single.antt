@@ -6,8 +6,7 @@ use Prim.Native.Nat.{ℕ}
 use contract.Lifetimes.{Lfts}
 use denote.Ref.{Bor}
 use Rattle.base.proofs.Single.{same}
-use Rattle.event.specs.declared.Evented.{Evented}
-use Rattle.event.specs.declared.Itemed.{Itemed}
+use Rattle.event.specs.Shapes.{Evented, Itemed}
 use Rattle.ifft.proofs.ifft_event.Reads as ifft-event
 use Rattle.ifft.proofs.ifft_item.Reads as ifft-item
 

@@ -3,19 +3,18 @@
 #![tactic(auto)]
 
 ghost use Rattle.std.specs.Prelude.{◌≡◌, ◌+◌, ◌≤◌, length};
-ghost use Rattle.event.specs.Ifft.{is_nm, turn, wrong, word_at, item_at, event_of, item_of};
+ghost use Rattle.event.specs.Ifft.{turn, wrong, word_at, item_at, event_of, item_of};
 ghost use Rattle.event.specs.Steps.{ifft_at};
 
 use block::{Kind, Layout, Refusal};
-use event::{Entry, Evented, Itemed, MatrixItem};
+use event::{Event, MatrixItem};
 
-fn is_nm(kind: Kind) -> bool
-    ensures { result ≡ is_nm kind }
-{
-    match kind {
-        Kind::Nm => true,
-        Kind::Bm1 => false,
-    }
+// What sets the entries of an IFFT block apart: the first of the three spin counters that they come at, how many there can be, and the bytes of one.
+#[derive(Clone, Copy)]
+struct Entries {
+    first: u8,
+    most: u8,
+    size: usize,
 }
 
 // Events come at spin counters 5, 7, 9 and matrix items at 6, 8, 10.
@@ -23,46 +22,48 @@ fn is_turn(spin: u8, first: u8) -> bool
     requires { first ≤ 6 }
     ensures { result ≡ turn first spin }
 {
-    spin == first || (spin == first + 2 || spin == first + 4)
+    [first, first + 2, first + 4].contains(&spin)
 }
 
 // 24: not NM, no IFFT, a memory dump, another spin counter, or a count that the block can't hold.
 #[tactic(auto, unfolding(event::specs::Ifft::wrong))]
-fn is_wrong(kind: Kind, d1: u8, spin: u8, count: u8, first: u8, most: u8) -> bool
-    requires { first ≤ 6 }
-    ensures { result ≡ wrong kind d1 spin count first most }
+fn is_wrong(layout: Layout, spin: u8, count: u8, entries: Entries) -> bool
+    requires { entries.first ≤ 6 }
+    ensures { result ≡ wrong layout.kind layout.d1 spin count entries.first entries.most }
 {
-    let wanted = is_nm(kind);
-    let turn = is_turn(spin, first);
-    !wanted || (d1 % 2 != 1 || (d1 / 4 % 2 == 1 || (!turn || most < count)))
+    let d1 = layout.d1;
+    let turn = is_turn(spin, entries.first);
+    layout.kind != Kind::Nm || d1 % 2 != 1 || d1 / 4 % 2 == 1 || !turn || entries.most < count
 }
 
-// The entry of a number in the IFFT block, at 20h on: those that come first at this spin counter, are at most so many, and have this size.
-fn ifft_at(b: &[u8], n: usize, first: u8, most: u8, size: usize) -> Entry
-    requires { (first ≤ 6) × (size ≤ 4) }
-    ensures { result ≡ ifft_at b.now n first most size }
+// Where the entry of a number begins in the IFFT block, which begins at 20h; or why it is refused.
+#[tactic(auto, using(event::proofs::Laws::ifft_refused, event::proofs::Laws::ifft_wrong, event::proofs::Laws::ifft_beyond, event::proofs::Laws::ifft_found, event::proofs::Laws::counters_in))]
+fn ifft_at(b: &[u8], n: usize, entries: Entries) -> Result<usize, Refusal>
+    requires { (entries.first ≤ 6) × (entries.size ≤ 4) }
+    ensures { result ≡ ifft_at b.now n entries.first entries.most entries.size }
 {
-    let layout = layout::layout_of(b);
-    match layout {
-        Layout::Bad(r) => Entry::Refused(r),
-        Layout::Is(kind, d1, _) => {
-            let count = b[6];
-            if is_wrong(kind, d1, b[5], count, first, most) {
-                return Entry::Refused(Refusal::NotIfft);
-            }
-            if count as usize <= n {
-                return Entry::Refused(Refusal::Beyond);
-            }
-            Entry::At(0x020 + size * n)
-        }
+    let layout = layout::layout_of(b)?;
+    let count = b[6];
+    if is_wrong(layout, b[5], count, entries) {
+        return Err(Refusal::NotIfft);
     }
+    if usize::from(count) <= n {
+        return Err(Refusal::Beyond);
+    }
+    Ok(0x020 + entries.size * n)
 }
 
 // The event of a number in the IFFT block: a direct event.
-pub fn ifft_event(b: &[u8], n: usize) -> Evented
+#[tactic(auto, using(event::proofs::Laws::event_is))]
+pub fn ifft_event(b: &[u8], n: usize) -> Result<Event, Refusal>
     ensures { result ≡ event_of b.now n }
 {
-    event::event_in(b, ifft_at(b, n, 5, 85, 3))
+    let events = Entries {
+        first: 5,
+        most: 85,
+        size: 3,
+    };
+    event::event_in(b, ifft_at(b, n, events))
 }
 
 fn word_at(b: &[u8], at: usize) -> u16
@@ -81,20 +82,20 @@ fn item_at(b: &[u8], at: usize) -> MatrixItem
     MatrixItem {
         first,
         second,
-        good: u16::count_ones(second) % 2 == 0,
+        good: second.count_ones() % 2 == 0,
     }
 }
 
 // The matrix item of a number in the IFFT block.
-pub fn ifft_item(b: &[u8], n: usize) -> Itemed
+#[tactic(auto, using(event::proofs::Laws::item_refused, event::proofs::Laws::item_found, event::proofs::Laws::item_ends))]
+pub fn ifft_item(b: &[u8], n: usize) -> Result<MatrixItem, Refusal>
     ensures { result ≡ item_of b.now n }
 {
-    let entry = ifft_at(b, n, 6, 64, 4);
-    match entry {
-        Entry::At(at) => {
-            let item = item_at(b, at);
-            Itemed::Is(item)
-        }
-        Entry::Refused(r) => Itemed::Refused(r),
-    }
+    let items = Entries {
+        first: 6,
+        most: 64,
+        size: 4,
+    };
+    let at = ifft_at(b, n, items)?;
+    Ok(item_at(b, at))
 }

@@ -5,7 +5,7 @@ use mathlib.Core.List.{List}
 use Prim.Native.Nat.{ℕ}
 use Rattle.base.proofs.Single.{same}
 use Rattle.frame.specs.declared.Item.{Item}
-use Rattle.item_names.specs.declared.InRow.{InRow}
+use Rattle.item_names.specs.Shapes.{InRow}
 use Rattle.item_names.proofs.item_in.Reads as item_in
 use Rattle.item_names.proofs.name_of.Reads as name_of
 

@@ -1,3 +1,4 @@
 -- The items by row and by name.
+pub mod Shapes
 pub mod Names
 pub mod Laws

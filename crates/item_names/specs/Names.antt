@@ -1,13 +1,12 @@
 -- The name of each item, and the item of each row (01, "The 40-byte frame"; 02 (iv)).
 -- Assumes nothing.
-use Rattle.std.specs.Prelude.{List, ℕ, ltb, get_or}
+use Rattle.std.specs.Prelude.{List, ℕ, ltb, get_or, Some, None}
 use Rattle.base.specs.Ascii.{ascii}
 use Rattle.base.specs.Pick.{pick}
 use Rattle.frame.specs.declared.Item.{Item}
 use Rattle.frame.specs.declared.Item.TheVariants.{Parallel, Multiplexer1, Multiplexer2, Multiplexer3, ErrorCode, DirectionStop, DirectionStart, EnergyStop, EnergyStart, LastInvalidCode, IelEnable, ReducedCounter, Bias, Relay, Ground, StopStepping, StopLimit, StopLevel, Flap1, Flap2, Flap3, IelClock, LastCheck, InvalidCount, HeadMask, LongCounter, FreeTime, StartStepping, StartLimit, StartLevel, DeflectionStepping, DeflectionLimit, DeflectionLevel}
 use Rattle.frame.specs.Items.{items, all_items}
-use Rattle.item_names.specs.declared.InRow.{InRow}
-use Rattle.item_names.specs.declared.InRow.TheVariants.{Nothing, Is}
+use Rattle.item_names.specs.Shapes.{InRow}
 
 abbrev pub name_of : Item → List ℕ
 name_of Parallel = ascii "Parallel            "
@@ -46,4 +45,4 @@ name_of DeflectionLevel = ascii "DeflectionLevel     "
 
 -- the item in a row; none past the last
 abbrev pub item_in : ℕ → InRow
-item_in k = pick (ltb k items) (Is (get_or all_items k Parallel)) Nothing
+item_in k = pick (ltb k items) (Some (get_or all_items k Parallel)) None

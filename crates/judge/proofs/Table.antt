@@ -1,5 +1,6 @@
 -- The laws of the command table (specs/Table.antt). A byte's bits under a mask are all that a rule reads of it: one test, computed for the 256 bytes.
 -- Assumes nothing.
+use Rattle.std.specs.Prelude.{Ok, Err}
 use mathlib.Core.Path.{◌≡◌, refl, sym, ap, ◌∙◌}
 use mathlib.Core.Bool.{Bool, true, false, not, ◌||◌, true≢false}
 use mathlib.Core.Logic.{◌⊎◌, inl, inr, ⊎_elim}
@@ -19,8 +20,7 @@ use Rattle.judge.specs.declared.Which.TheVariants.{Stop, Start, Deflection}
 use Rattle.judge.specs.declared.Core.{Core}
 use Rattle.judge.specs.declared.Refusal.{Refusal}
 use Rattle.judge.specs.declared.Refusal.TheVariants.{RelayOff, Disabled, OverLimit, StrayWord, RelayBits, WrongCheck, Unsettled, OutOfRange, WrongCount, UnknownCode}
-use Rattle.judge.specs.declared.Verdict.{Verdict}
-use Rattle.judge.specs.declared.Verdict.TheVariants.{Apply, Deny}
+use Rattle.judge.specs.Shapes.{Verdict}
 use Rattle.judge.specs.Refusals.{number_of, raised}
 use Rattle.judge.specs.Commands.{carried, relay_cmd, iel_cmd, mask_cmd, target_cmd, limit_cmd, mode_cmd, stepping_cmd, single_of, mux_cmd, direction_cmd, energy_cmd, counted_of, block_of}
 use Rattle.judge.specs.Table.{singles, blocks, target_code, limit_code, stepping_code, NoneOf, named_bits, named_bits2, Agree, has, TableLaws}
@@ -45,12 +45,12 @@ kept supply.RelayBits = refl
 kept supply.Unsettled = refl
 kept supply.OutOfRange = refl
 
-unknown : (c : Core) (code low : ℕ) → NoneOf singles code → single_of c code low ≡ Deny UnknownCode
+unknown : (c : Core) (code low : ℕ) → NoneOf singles code → single_of c code low ≡ Err UnknownCode
 unfolding single_of
 unknown c code low h =
     simp (ne_eqb _ _ h.0, ne_eqb _ _ h.1.0, ne_eqb _ _ h.1.1.0, ne_eqb _ _ h.1.1.1.0, ne_eqb _ _ h.1.1.1.1.0, ne_eqb _ _ h.1.1.1.1.1.0, ne_eqb _ _ h.1.1.1.1.1.1.0, ne_eqb _ _ h.1.1.1.1.1.1.1.0, ne_eqb _ _ h.1.1.1.1.1.1.1.1.0, ne_eqb _ _ h.1.1.1.1.1.1.1.1.1.0, ne_eqb _ _ h.1.1.1.1.1.1.1.1.1.1.0, ne_eqb _ _ h.1.1.1.1.1.1.1.1.1.1.1.0, ne_eqb _ _ h.1.1.1.1.1.1.1.1.1.1.1.1.0)
 
-unknown2 : (c : Core) (code n x y : ℕ) → NoneOf blocks code → block_of c code n x y ≡ Deny UnknownCode
+unknown2 : (c : Core) (code n x y : ℕ) → NoneOf blocks code → block_of c code n x y ≡ Err UnknownCode
 unfolding block_of
 unknown2 c code n x y h = simp (ne_eqb _ _ h.0, ne_eqb _ _ h.1.0, ne_eqb _ _ h.1.1.0)
 
@@ -159,8 +159,8 @@ told_supply s = digit s.relay + 2 * digit s.stepping + 4 * s.target + 64 * s.lim
 
 -- a number that tells a verdict on `ready` from another: each part that a command moves in a place of its own
 abbrev told : Verdict → ℕ
-told (Deny why) = 0
-told (Apply c) =
+told (Err why) = 0
+told (Ok c) =
     let x = c.settings.sensor in
     1 + digit c.settings.parallel + 2 * digit c.settings.iel.clock + 4 * digit c.settings.iel.enable + 8 * digit x.mux.bit + 16 * c.settings.mask
     + 128 * (x.mux.byte + x.direction.start + 32 * x.direction.stop + x.energy.start + 32 * x.energy.stop)

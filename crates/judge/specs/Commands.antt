@@ -1,49 +1,45 @@
 -- What each command of the table does to the rig's core, and when it is refused (01, "Command words"; 02 (iv), start and deflection as stop). The
 -- low byte is `low`; a block's two bytes are `first` and `second`; x is the supply that the command is for. Bits not named are ignored.
 -- Assumes nothing.
-use Rattle.std.specs.Prelude.{ℕ, ◌/◌, ◌%◌, Bool, true, false, eqb}
+use Rattle.std.specs.Prelude.{ℕ, ◌/◌, ◌%◌, Bool, true, false, eqb, Ok, Err}
 use Rattle.base.specs.Pick.{pick}
 use Rattle.supply.specs.Rules.{relay_of, relayed, targeted, limited, switched}
-use Rattle.supply.specs.declared.Change.{Change}
-use Rattle.supply.specs.declared.Change.TheVariants.{Done, Refused}
-use Rattle.supply.specs.declared.RelayWord.{RelayWord}
-use Rattle.supply.specs.declared.RelayWord.TheVariants.{On, Off, Bad}
+use Rattle.supply.specs.Shapes.{Change}
+use Rattle.supply.specs.Shapes.{RelayWord}
 use Rattle.judge.specs.declared.Mux.{Mux}
 use Rattle.judge.specs.declared.Window.{Window}
 use Rattle.judge.specs.declared.Sensor.{Sensor}
 use Rattle.judge.specs.declared.Which.{Which}
 use Rattle.judge.specs.declared.Which.TheVariants.{Stop, Start, Deflection}
 use Rattle.judge.specs.declared.Core.{Core}
-use Rattle.judge.specs.declared.Verdict.{Verdict}
-use Rattle.judge.specs.declared.Verdict.TheVariants.{Apply, Deny}
+use Rattle.judge.specs.Shapes.{Verdict}
 use Rattle.judge.specs.declared.Refusal.TheVariants.{OutOfRange, WrongCount, UnknownCode}
 use Rattle.judge.specs.Refusals.{raised}
 use Rattle.judge.specs.Records.{supply_at, with_supply, with_settings, with_parallel, with_mask, with_iel, with_sensor, with_mux, with_direction, with_energy}
 
 -- what the supply answers is the verdict
 unfoldable pub carried : Core → Which → Change → Verdict
-carried c x (Done s) = Apply (with_supply c x s)
-carried c x (Refused why) = Deny (raised why)
+carried c x (Ok s) = Ok (with_supply c x s)
+carried c x (Err why) = Err (raised why)
 
 -- single 08h relay: bit 1 on, bit 5 off; both or neither: 0Bh. It is common: off sets level and target of all three to 0
 abbrev pub relay_to : Core → Bool → Core
 relay_to c on = record { stop = relayed c.stop on; start = relayed c.start on; deflection = relayed c.deflection on; settings = c.settings }
 
 abbrev pub ordered : Core → RelayWord → Verdict
-ordered c On = Apply (relay_to c true)
-ordered c Off = Apply (relay_to c false)
-ordered c (Bad why) = Deny (raised why)
+ordered c (Ok on) = Ok (relay_to c on)
+ordered c (Err why) = Err (raised why)
 
 abbrev pub relay_cmd : Core → ℕ → Verdict
 relay_cmd c low = ordered c (relay_of low)
 
 -- single 0Ch: bit 0 IEL clock, bit 1 IEL enable
 abbrev pub iel_cmd : Core → ℕ → Verdict
-iel_cmd c low = Apply (with_settings c (with_iel c.settings (record { clock = eqb (low % 2) 1; enable = eqb (low / 2 % 2) 1 })))
+iel_cmd c low = Ok (with_settings c (with_iel c.settings (record { clock = eqb (low % 2) 1; enable = eqb (low / 2 % 2) 1 })))
 
 -- single 26h: bits 2-0 head mask
 abbrev pub mask_cmd : Core → ℕ → Verdict
-mask_cmd c low = Apply (with_settings c (with_mask c.settings (low % 8)))
+mask_cmd c low = Ok (with_settings c (with_mask c.settings (low % 8)))
 
 -- singles 28h stop, 20h start, 23h deflection: bits 3-0 new target; relay off 04h, stepping disabled 05h, target > limit 06h
 abbrev pub target_cmd : Which → Core → ℕ → Verdict
@@ -55,10 +51,10 @@ limit_cmd x c low = carried c x (limited (supply_at c x) low)
 
 -- single 2Bh: 0 serial, 1 parallel; other 0Dh
 abbrev pub mode_set : Core → Bool → Verdict
-mode_set c b = Apply (with_settings c (with_parallel c.settings b))
+mode_set c b = Ok (with_settings c (with_parallel c.settings b))
 
 unfoldable pub mode_cmd : Core → ℕ → Verdict
-mode_cmd c low = pick (eqb low 0) (mode_set c false) (pick (eqb low 1) (mode_set c true) (Deny OutOfRange))
+mode_cmd c low = pick (eqb low 0) (mode_set c false) (pick (eqb low 1) (mode_set c true) (Err OutOfRange))
 
 -- singles 2Dh stop, 2Ch start, 22h deflection: stepping 0 off, 1 on; other 0Dh
 abbrev pub stepping_cmd : Which → Core → ℕ → Verdict
@@ -80,7 +76,7 @@ single_of c code low =
     pick (eqb code 0x2B) (mode_cmd c low) (
     pick (eqb code 0x2C) (stepping_cmd Start c low) (
     pick (eqb code 0x2D) (stepping_cmd Stop c low) (
-    Deny UnknownCode)))))))))))))
+    Err UnknownCode)))))))))))))
 
 -- multiplexer word: byte 1, then bit 0 of byte 2
 abbrev pub mux_word : ℕ → ℕ → Mux
@@ -92,7 +88,7 @@ window_of first second = record { start = first % 32; stop = second % 32 }
 
 -- n wrong for that code 0Eh (it is 2 for each); apply
 unfoldable pub counted_of : ℕ → Core → Sensor → Verdict
-counted_of n c x = pick (eqb n 2) (Apply (with_settings c (with_sensor c.settings x))) (Deny WrongCount)
+counted_of n c x = pick (eqb n 2) (Ok (with_settings c (with_sensor c.settings x))) (Err WrongCount)
 
 -- block 20h: multiplexer word
 abbrev pub mux_cmd : Core → ℕ → ℕ → ℕ → Verdict
@@ -112,4 +108,4 @@ block_of c code n first second =
     pick (eqb code 0x20) (mux_cmd c n first second) (
     pick (eqb code 0x23) (direction_cmd c n first second) (
     pick (eqb code 0x24) (energy_cmd c n first second) (
-    Deny UnknownCode)))
+    Err UnknownCode)))

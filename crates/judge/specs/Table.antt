@@ -1,6 +1,6 @@
 -- What a reader may count on of the command table (01, "Command words"; 02 (iv)): its numbers, its lists of codes, the bits that each command reads.
 -- The record is proved in proofs/Table.antt. Assumes nothing.
-use Rattle.std.specs.Prelude.{ℕ, ◌/◌, ◌%◌, ◌^◌, ◌<◌, ◌≡◌, Bool, true, List, [], ◌∷◌, eqb}
+use Rattle.std.specs.Prelude.{ℕ, ◌/◌, ◌%◌, ◌^◌, ◌<◌, ◌≡◌, Bool, true, List, [], ◌∷◌, eqb, Err}
 use Rattle.std.specs.Int.Bits.{bit_and}
 use Rattle.base.specs.Pick.{pick}
 use Rattle.supply.specs.declared.Refusal.{Refusal as SupplyRefusal}
@@ -10,7 +10,6 @@ use Rattle.judge.specs.declared.Which.TheVariants.{Stop, Start, Deflection}
 use Rattle.judge.specs.declared.Core.{Core}
 use Rattle.judge.specs.declared.Refusal.{Refusal}
 use Rattle.judge.specs.declared.Refusal.TheVariants.{RelayOff, Disabled, OverLimit, StrayWord, RelayBits, WrongCheck, Unsettled, OutOfRange, WrongCount, UnknownCode}
-use Rattle.judge.specs.declared.Verdict.TheVariants.{Deny}
 use Rattle.judge.specs.Refusals.{number_of, raised}
 use Rattle.judge.specs.Commands.{relay_cmd, iel_cmd, mask_cmd, target_cmd, limit_cmd, mode_cmd, stepping_cmd, single_of, mux_cmd, direction_cmd, energy_cmd, block_of}
 
@@ -92,12 +91,12 @@ pub record TableLaws : Type 0 where
   pub limit : (x : Which) (c : Core) (low : ℕ) → single_of c (limit_code x) low ≡ limit_cmd x c low
   pub mode : (c : Core) (low : ℕ) → single_of c 0x2B low ≡ mode_cmd c low
   pub stepping : (x : Which) (c : Core) (low : ℕ) → single_of c (stepping_code x) low ≡ stepping_cmd x c low
-  pub unknown : (c : Core) (code low : ℕ) → NoneOf singles code → single_of c code low ≡ Deny UnknownCode
+  pub unknown : (c : Core) (code low : ℕ) → NoneOf singles code → single_of c code low ≡ Err UnknownCode
   -- each listed block is judged by its own row, and an unknown one is 0Fh, whatever its n
   pub mux : (c : Core) (n x y : ℕ) → block_of c 0x20 n x y ≡ mux_cmd c n x y
   pub direction : (c : Core) (n x y : ℕ) → block_of c 0x23 n x y ≡ direction_cmd c n x y
   pub energy : (c : Core) (n x y : ℕ) → block_of c 0x24 n x y ≡ energy_cmd c n x y
-  pub unknown2 : (c : Core) (code n x y : ℕ) → NoneOf blocks code → block_of c code n x y ≡ Deny UnknownCode
+  pub unknown2 : (c : Core) (code n x y : ℕ) → NoneOf blocks code → block_of c code n x y ≡ Err UnknownCode
   -- bits not named are ignored: bytes that agree on the named bits get the same verdict
   pub ignored : (c : Core) (code a b : ℕ) → a < 0x100 → b < 0x100 → Agree (named_bits code) a b → single_of c code a ≡ single_of c code b
   pub ignored2 : (c : Core) (code n a x b y : ℕ) → a < 0x100 → x < 0x100 → b < 0x100 → y < 0x100

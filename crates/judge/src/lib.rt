@@ -3,7 +3,7 @@
 #![tactic(auto)]
 
 ghost use Rattle.std.specs.Prelude.{◌≡◌};
-ghost use Rattle.judge.specs.Refusals.{number_of};
+ghost use Rattle.judge.specs.Refusals.{number_of, raised};
 ghost use Rattle.judge.specs.Records.{supply_at, with_supply};
 
 use supply::Supply;
@@ -75,12 +75,6 @@ pub enum Refusal {
     UnknownCode,
 }
 
-#[derive(Clone, Copy)]
-pub enum Verdict {
-    Apply(Core),
-    Deny(Refusal),
-}
-
 // The number that the table gives a refusal.
 pub fn number(r: Refusal) -> u8
     ensures { result ≡ number_of r }
@@ -99,6 +93,22 @@ pub fn number(r: Refusal) -> u8
     }
 }
 
+// A supply's refusal among the rig's.
+impl From<supply::Refusal> for Refusal {
+    ghost from_gives = { λ r s. s ≡ raised r };
+
+    fn from(r: supply::Refusal) -> Refusal {
+        match r {
+            supply::Refusal::RelayOff => Refusal::RelayOff,
+            supply::Refusal::Disabled => Refusal::Disabled,
+            supply::Refusal::OverLimit => Refusal::OverLimit,
+            supply::Refusal::RelayBits => Refusal::RelayBits,
+            supply::Refusal::Unsettled => Refusal::Unsettled,
+            supply::Refusal::OutOfRange => Refusal::OutOfRange,
+        }
+    }
+}
+
 // The supply that a command is for.
 pub fn supply_at(core: Core, which: Which) -> Supply
     ensures { result ≡ supply_at core which }
@@ -114,11 +124,18 @@ pub fn supply_at(core: Core, which: Which) -> Supply
 pub fn with_supply(core: Core, which: Which, supply: Supply) -> Core
     ensures { result ≡ with_supply core which supply }
 {
-    let mut next = core;
     match which {
-        Which::Stop => next.stop = supply,
-        Which::Start => next.start = supply,
-        Which::Deflection => next.deflection = supply,
+        Which::Stop => Core {
+            stop: supply,
+            ..core
+        },
+        Which::Start => Core {
+            start: supply,
+            ..core
+        },
+        Which::Deflection => Core {
+            deflection: supply,
+            ..core
+        },
     }
-    next
 }

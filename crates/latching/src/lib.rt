@@ -7,13 +7,8 @@ ghost use Rattle.frame.specs.Write.{latch_of};
 
 use frame::Held;
 
-fn wide_16(x: u16) -> u32
-    ensures { result ≡ x }
-{
-    x as u32
-}
-
 // The latch once the frame of this index is built: the first frame of a spread number takes that number.
+// What is held, the index and the latch are no struct of three: the latch here is the one before the frame, and the writer's the one after it.
 pub fn latched(held: Held, index: u8, latch: u32) -> u32
     ensures { result ≡ latch_of held index latch }
 {
@@ -22,7 +17,7 @@ pub fn latched(held: Held, index: u8, latch: u32) -> u32
         return held.long;
     }
     if i == 27 {
-        return wide_16(held.free);
+        return u32::from(held.free);
     }
     latch
 }

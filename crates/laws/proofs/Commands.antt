@@ -1,6 +1,7 @@
 -- One walk of the command table: every verdict keeps the bounds of the core, orders of the sensor what its block says, and leaves the supplies that it is
 -- not for. A supply's part is the supply's own law, for any of the three.
 -- Assumes nothing.
+use Rattle.std.specs.Prelude.{Ok, Err}
 use mathlib.Core.Path.{◌≡◌, refl, ap, sym, ◌∙◌}
 use mathlib.Core.Bool.{Bool, true, false, not, ◌||◌, true≢false}
 use Prim.Native.Nat.{ℕ, ◌/◌, ◌%◌, ◌<◌, ◌≤◌}
@@ -12,10 +13,8 @@ use Rattle.base.proofs.Cases.{split}
 use Rattle.supply.specs.Rules.{relay_of, relayed, targeted, limited, switched}
 use Rattle.supply.specs.Laws.{Safe, Quiet, Leaves, SafeChange, QuietChange}
 use Rattle.supply.specs.declared.Supply.{Supply}
-use Rattle.supply.specs.declared.RelayWord.{RelayWord}
-use Rattle.supply.specs.declared.RelayWord.TheVariants.{On, Off, Bad}
-use Rattle.supply.specs.declared.Change.{Change}
-use Rattle.supply.specs.declared.Change.TheVariants.{Done, Refused}
+use Rattle.supply.specs.Shapes.{RelayWord}
+use Rattle.supply.specs.Shapes.{Change}
 use Rattle.supply.proofs.Kept.{relayed_safe, targeted_safe, limited_safe, switched_safe, relayed_quiet, targeted_quiet, limited_quiet, switched_quiet}
 use Rattle.crc.specs.declared.Judged.{Judged}
 use Rattle.crc.specs.declared.Judged.TheVariants.{Right, Wrong}
@@ -23,8 +22,7 @@ use Rattle.judge.specs.declared.Which.{Which}
 use Rattle.judge.specs.declared.Which.TheVariants.{Stop, Start, Deflection}
 use Rattle.judge.specs.declared.Settings.{Settings}
 use Rattle.judge.specs.declared.Core.{Core}
-use Rattle.judge.specs.declared.Verdict.{Verdict}
-use Rattle.judge.specs.declared.Verdict.TheVariants.{Apply, Deny}
+use Rattle.judge.specs.Shapes.{Verdict}
 use Rattle.judge.specs.Commands.{carried, relay_to, ordered, mode_cmd, single_of, mux_word, window_of, counted_of, block_of}
 use Rattle.judge.specs.Records.{supply_at, with_supply, with_settings, with_parallel, with_mask, with_iel, with_sensor, with_mux, with_direction, with_energy}
 use Rattle.judge.specs.declared.Sensor.{Sensor}
@@ -64,8 +62,8 @@ supply_fits Deflection c s h u = record { on = h.on; stop = h.stop; start = h.st
 
 -- the core that a verdict applies, if it does: it fits where H holds, and is as P says
 abbrev pub Keeps : Type 0 → (Core → Type 0) → Verdict → Type 0
-Keeps H P (Apply d) = (H → CoreFits d) × P d
-Keeps H P (Deny why) = Unit {0}
+Keeps H P (Ok d) = (H → CoreFits d) × P d
+Keeps H P (Err why) = Unit {0}
 
 -- of a single: nothing is ordered of the sensor, and a supply is left by a code that is neither 08h nor its own
 abbrev pub KeepsSingle : Core → ℕ → Verdict → Type 0
@@ -95,8 +93,8 @@ abbrev Ruled : (Supply → ℕ → Change) → Type 0
 Ruled rule = (s : Supply) (low : ℕ) (on : Bool) → Up on s → Leaves (Up on) (rule s low)
 
 together : {on : Bool} {s : Supply} (ch : Change) → Up on s → SafeChange ch → QuietChange ch → Leaves (λ n. n.relay ≡ s.relay) ch → Leaves (Up on) ch
-together (Done n) u safe quiet relay = record { safe = safe; quiet = quiet; relay = relay ∙ u.relay }
-together (Refused why) u safe quiet relay = tt
+together (Ok n) u safe quiet relay = record { safe = safe; quiet = quiet; relay = relay ∙ u.relay }
+together (Err why) u safe quiet relay = tt
 
 targets : Ruled targeted
 unfolding targeted
@@ -122,9 +120,9 @@ switches s low on u =
 carried_keeps : (x : Which) (c : Core) (code : ℕ) (ch : Change) → ((h : CoreFits c) → Leaves (Up h.on) ch) → commands x code ≡ true
     → KeepsSingle c code (carried c x ch)
 unfolding carried
-carried_keeps x c code (Done s) ruled own =
+carried_keeps x c code (Ok s) ruled own =
     (λ h. supply_fits x c s h (ruled h), (ap (λ (z : Settings). z.sensor) (settings_kept c s x), λ y n. others c s (λ z. is_relay code || commands z code) x y (rw own (or_true (is_relay code))) n))
-carried_keeps x c code (Refused why) ruled own = tt
+carried_keeps x c code (Err why) ruled own = tt
 
 -- a row of any supply
 supply_keeps : (x : Which) (c : Core) (code low : ℕ) (rule : Supply → ℕ → Change) → Ruled rule → commands x code ≡ true
@@ -151,9 +149,9 @@ no_other : (x : Which) (code : ℕ) → eqb code 0x08 ≡ true → is_relay code
 no_other x code e n = true≢false (sym (rw e refl) ∙ n)
 
 relay_keeps : (c : Core) (code : ℕ) → eqb code 0x08 ≡ true → (w : RelayWord) → KeepsSingle c code (ordered c w)
-relay_keeps c code e On = (relayed_fits c true, (refl, λ x n. absurd (no_other x code e n)))
-relay_keeps c code e Off = (relayed_fits c false, (refl, λ x n. absurd (no_other x code e n)))
-relay_keeps c code e (Bad why) = tt
+relay_keeps c code e (Ok true) = (relayed_fits c true, (refl, λ x n. absurd (no_other x code e n)))
+relay_keeps c code e (Ok false) = (relayed_fits c false, (refl, λ x n. absurd (no_other x code e n)))
+relay_keeps c code e (Err why) = tt
 
 -- a command that moves the settings alone
 settings_left : (c : Core) (s : Settings) (x : Which) → supply_at (with_settings c s) x ≡ supply_at c x

@@ -16,7 +16,7 @@ use Rattle.rig.specs.declared.Answer.TheVariants.{Accepted, Refused}
 use Rattle.rig.specs.declared.Reply.{Reply}
 use Rattle.rig.specs.declared.Reply.TheVariants.{Plain}
 use Rattle.rig.specs.declared.Taken.{Taken}
-use Rattle.rig.specs.Words.{kind_of, refused_of, settled_of, head_of, fresh_of, verdict_of, closed_of, dropped_of, pending_of, take_of}
+use Rattle.rig.specs.Words.{kind_of, refused_of, settled_of, head_of, fresh_of, verdict_of, closed_of, dropped_of, pending_of, take_with, take_of}
 use Rattle.rig.specs.Start.{start_rig}
 use Rattle.laws.specs.Ordered.{energy, pair_of}
 use Rattle.laws.specs.Replies.{ReplyLaws}
@@ -56,7 +56,7 @@ runs :
     × (left (send 0x6402 ∷ send 0xA401 ∷ send 0xA400 ∷ send 0xE415 ∷ []) ≡ 0 ∷ 0x00 ∷ 0xFF ∷ 0x15 ∷ [])
     × (left (send 0x6402 ∷ send 0xA401 ∷ send 0xA400 ∷ send 0xE407 ∷ []) ≡ 1 ∷ 0x0B ∷ 0x64 ∷ 0x15 ∷ [])
     × (left (send 0x6402 ∷ send 0xA401 ∷ send 0xE415 ∷ []) ≡ 1 ∷ 0x03 ∷ 0x64 ∷ 0x00 ∷ [])
-unfolding rig_after ledger take_of pending_of dropped_of closed_of verdict_of fresh_of head_of settled_of refused_of kind_of single_of block_of counted_of carried relay_of targeted crc_of crc_from shift
+unfolding rig_after ledger take_of take_with pending_of dropped_of closed_of verdict_of fresh_of head_of settled_of refused_of kind_of single_of block_of counted_of carried relay_of targeted crc_of crc_from shift
 runs = (refl, refl, refl, refl, refl, refl, refl, refl, refl, refl, refl)
 
 -- the blocks of an energy window from 1 to 0 and of one from 19 to 29, without their end words
@@ -92,16 +92,16 @@ registers :
     × (sensed (window ++ (send 0x0802 ∷ send 0xE415 ∷ spin ∷ [])) ≡ all (0, 0) (0, 0))
     -- a power cut clears both
     × (sensed (window ++ (send 0xE415 ∷ spin ∷ cut ∷ [])) ≡ all (0, 0) (0, 0))
-unfolding rig_after ledger take_of pending_of dropped_of closed_of verdict_of fresh_of head_of settled_of refused_of kind_of single_of block_of counted_of relay_of crc_of crc_from shift
+unfolding rig_after ledger take_of take_with pending_of dropped_of closed_of verdict_of fresh_of head_of settled_of refused_of kind_of single_of block_of counted_of relay_of crc_of crc_from shift
 registers = (refl, refl, refl, refl, refl, refl, refl, refl, refl)
 
 -- 0C00 at the start is accepted, 8000 is refused 0Bh, by every function under the laws
 accepts : (take_of start_rig 0x0C00).reply ≡ Plain Accepted
-unfolding take_of fresh_of settled_of kind_of single_of
+unfolding take_of take_with fresh_of settled_of kind_of single_of
 accepts = refl
 
 refuses : (take_of start_rig 0x8000).reply ≡ Plain (Refused StrayWord)
-unfolding take_of fresh_of settled_of kind_of
+unfolding take_of take_with fresh_of settled_of kind_of
 refuses = refl
 
 replies : (take : Rig → ℕ → Taken) → RowLaws take → ReplyLaws take → (w : ℕ) → (take start_rig w).reply ≡ (take_of start_rig w).reply

@@ -10,12 +10,14 @@ use Rattle.base.proofs.Cases.{split}
 use Rattle.judge.specs.declared.Which.TheVariants.{Stop, Start, Deflection}
 use Rattle.rig.specs.declared.Kind.{Kind}
 use Rattle.rig.specs.declared.Kind.TheVariants.{Single, Head, Data, End}
+use Rattle.rig.specs.declared.Pending.{Pending}
 use Rattle.rig.specs.declared.Rig.{Rig}
 use Rattle.rig.specs.declared.Taken.{Taken}
 use Rattle.rig.specs.Words.{high_of, kind_of}
 use Rattle.laws.specs.Results.{dropped_rig}
 use Rattle.laws.specs.Replies.{afterwards, ReplyLaws}
 use Rattle.laws.specs.Rows.{single, Idle, Waits, ExactlyOne, Unlisted, RowLaws, OneTake}
+use Rattle.laws.proofs.Tests.{by_option}
 use Rattle.laws.proofs.WordKinds.{IsKind, kind_of_lem}
 
 -- two things told by the one x of a table are one
@@ -55,35 +57,35 @@ module _ (take other : Rig → ℕ → Taken) (mine : RowLaws take) (yours : Row
   idle r w End i e = mine.stray_end r w i e ∙ sym (yours.stray_end r w i e)
 
   -- a word judged afresh after a drop, which leaves nothing pending
-  afresh : ReplyLaws take → ReplyLaws other → (r : Rig) (w : ℕ) (k : Kind) → Waits r → IsKind (w / 0x4000) k → w / 0x4000 < 2 → take r w ≡ other r w
-  afresh a b r w k p e h =
-      a.afresh r w p h
-      ∙ ap (λ (t : Taken). record { rig = t.rig; reply = afterwards t.reply }) (idle (dropped_rig r r.pending.head) w k refl e)
-      ∙ sym (b.afresh r w p h)
+  afresh : ReplyLaws take → ReplyLaws other → (r : Rig) (w : ℕ) (k : Kind) (p : Pending) → Waits r p → IsKind (w / 0x4000) k → w / 0x4000 < 2 → take r w ≡ other r w
+  afresh a b r w k p m e h =
+      a.afresh r w p m h
+      ∙ ap (λ (t : Taken). record { rig = t.rig; reply = afterwards t.reply }) (idle (dropped_rig r p.head) w k refl e)
+      ∙ sym (b.afresh r w p m h)
 
   -- with a block pending
-  waiting : ReplyLaws take → ReplyLaws other → (r : Rig) (w : ℕ) (k : Kind) → Waits r → IsKind (w / 0x4000) k → take r w ≡ other r w
-  waiting a b r w Single p e = afresh a b r w Single p e (omega arith)
-  waiting a b r w Head p e = afresh a b r w Head p e (omega arith)
-  waiting a b r w Data p e =
-      split (eqb (w / 256 % 64) (r.pending.head % 64))
+  waiting : ReplyLaws take → ReplyLaws other → (r : Rig) (w : ℕ) (k : Kind) (p : Pending) → Waits r p → IsKind (w / 0x4000) k → take r w ≡ other r w
+  waiting a b r w Single p m e = afresh a b r w Single p m e (omega arith)
+  waiting a b r w Head p m e = afresh a b r w Head p m e (omega arith)
+  waiting a b r w Data p m e =
+      split (eqb (w / 256 % 64) (p.head % 64))
       (λ c.
       let s = eqb-true _ _ c in
-      split (ltb r.pending.got r.pending.n)
-      (λ l. let h = ltb-true _ _ l in mine.kept r w p e s h ∙ sym (yours.kept r w p e s h))
-      (λ l. let h = ltb-false _ _ l in mine.swallowed_data r w p e (inr h) ∙ sym (yours.swallowed_data r w p e (inr h))))
-      (λ c. let n = eqb-false _ _ c in mine.swallowed_data r w p e (inl n) ∙ sym (yours.swallowed_data r w p e (inl n)))
-  waiting a b r w End p e =
-      split (eqb (w / 256 % 64) (r.pending.head % 64))
+      split (ltb p.got p.n)
+      (λ l. let h = ltb-true _ _ l in mine.kept r w p m e s h ∙ sym (yours.kept r w p m e s h))
+      (λ l. let h = ltb-false _ _ l in mine.swallowed_data r w p m e (inr h) ∙ sym (yours.swallowed_data r w p m e (inr h))))
+      (λ c. let n = eqb-false _ _ c in mine.swallowed_data r w p m e (inl n) ∙ sym (yours.swallowed_data r w p m e (inl n)))
+  waiting a b r w End p m e =
+      split (eqb (w / 256 % 64) (p.head % 64))
       (λ c.
       let s = eqb-true _ _ c in
-      split (eqb r.pending.got r.pending.n)
-      (λ l. let h = eqb-true _ _ l in agree (mine.closed r w p e s h) (yours.closed r w p e s h))
-      (λ l. let h = eqb-false _ _ l in mine.swallowed_end r w p e (inr h) ∙ sym (yours.swallowed_end r w p e (inr h))))
-      (λ c. let n = eqb-false _ _ c in mine.swallowed_end r w p e (inl n) ∙ sym (yours.swallowed_end r w p e (inl n)))
+      split (eqb p.got p.n)
+      (λ l. let h = eqb-true _ _ l in agree (mine.closed r w p m e s h) (yours.closed r w p m e s h))
+      (λ l. let h = eqb-false _ _ l in mine.swallowed_end r w p m e (inr h) ∙ sym (yours.swallowed_end r w p m e (inr h))))
+      (λ c. let n = eqb-false _ _ c in mine.swallowed_end r w p m e (inl n) ∙ sym (yours.swallowed_end r w p m e (inl n)))
 
 pub one_take : OneTake
 one_take take other mine a yours b r w =
     let k = kind_of (high_of w) in
     let e = kind_of_lem w k refl in
-    split r.pending.waiting (λ p. waiting take other mine yours a b r w k p e) (λ i. idle take other mine yours r w k i e)
+    by_option r.pending (λ i. idle take other mine yours r w k i e) (λ p m. waiting take other mine yours a b r w k p m e)

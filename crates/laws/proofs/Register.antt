@@ -8,7 +8,7 @@ use Rattle.base.specs.Pick.{pick}
 use Rattle.rig.specs.declared.Rig.{Rig}
 use Rattle.rig.specs.Words.{take_of}
 use Rattle.power.specs.Power.{spun_of, set_of}
-use Rattle.laws.specs.Ordered.{Order, pair_of, asked_by}
+use Rattle.laws.specs.Ordered.{Order, pair_of, asked_in}
 use Rattle.laws.specs.Runs.{Happening, word, spin, set, cut, frame, ours, happened, rig_after}
 use Rattle.laws.specs.Register.{ordered_in, orders, Unspun, Unordered, NoSpin, NoOrder, RegisterLaws}
 use Rattle.laws.proofs.Replies.{reply_laws, ordered_word}
@@ -30,7 +30,7 @@ before r (e ∷ es) n = before (happened ours r e) es n.1 ∙ still r e n.0
 keeps : (p : Order) (r : Rig) (e : Happening) → Unspun e → Unordered ours p r e → pair_of p (ordered_in (happened ours r e)) ≡ pair_of p (ordered_in r)
 unfolding set_of
 keeps p r (word w h) u n =
-    ordered_word r w p ∙ ap (λ (b : Bool). pick b (asked_by p r.pending.first r.pending.second) (pair_of p (ordered_in r))) n
+    ordered_word r w p ∙ ap (λ (b : Bool). pick b (asked_in p r.pending) (pair_of p (ordered_in r))) n
 keeps p r spin u n = absurd u
 keeps p r (set s h) u n = refl
 keeps p r cut u n = absurd u
@@ -45,12 +45,12 @@ reached p r (e ∷ fs) gs n u = reached p (happened ours r e) fs gs n.2 u ∙ ke
 
 reaches : (r : Rig) (w : ℕ) (h : w < 0x10000) (p : Order) (fs gs : List Happening) → orders ours p r w ≡ true
     → NoOrder ours p (take_of r w).rig fs → NoSpin gs
-    → pair_of p (rig_after ours r (word w h ∷ (fs ++ (spin ∷ gs)))).register ≡ asked_by p r.pending.first r.pending.second
+    → pair_of p (rig_after ours r (word w h ∷ (fs ++ (spin ∷ gs)))).register ≡ asked_in p r.pending
 unfolding rig_after
 reaches r w h p fs gs o n u =
     reached p (take_of r w).rig fs gs n u
     ∙ ordered_word r w p
-    ∙ ap (λ (b : Bool). pick b (asked_by p r.pending.first r.pending.second) (pair_of p (ordered_in r))) o
+    ∙ ap (λ (b : Bool). pick b (asked_in p r.pending) (pair_of p (ordered_in r))) o
 
 pub register_laws : RegisterLaws ours
 register_laws =

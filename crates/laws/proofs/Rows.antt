@@ -1,26 +1,25 @@
 -- The command table row by row (specs/Rows). A row's one verdict is what its command's definition gives; that it is alone is the row's own table
 -- read the other way. The words of a row are put to the decoder's rule by arithmetic. Assumes nothing.
+use Rattle.std.specs.Prelude.{Ok, Err}
 use Prim.Native.Nat.{ℕ, ◌/◌, ◌%◌, ◌<◌, ◌≤◌}
 use mathlib.Core.Path.{◌≡◌, refl, ap, sym, ◌∙◌}
-use mathlib.Core.Bool.{false}
+use mathlib.Core.Bool.{true, false}
 use mathlib.Core.Logic.{◌↔◌, ◌⊎◌, inl, inr}
 use native.Mathlib.Omega.{arith}
 use lib.Dec.{eqb}
 use borrow.Author.Tests.{eqb-true, eqb-false, eq-eqb, ne_eqb, lt-ltb, le-ltb}
 use Rattle.base.proofs.Cases.{split}
 use Rattle.supply.specs.declared.Supply.{Supply}
-use Rattle.supply.specs.declared.Change.{Change}
+use Rattle.supply.specs.Shapes.{Change}
 use Rattle.supply.specs.declared.Refusal.TheVariants as supply
-use Rattle.supply.specs.declared.RelayWord.{RelayWord}
-use Rattle.supply.specs.declared.RelayWord.TheVariants.{On, Off, Bad}
+use Rattle.supply.specs.Shapes.{RelayWord}
 use Rattle.supply.specs.Rules.{relay_of, targeted, limited, switched}
 use Rattle.supply.specs.When.{RelayWhen, TargetWhen, LimitWhen, StepWhen}
 use Rattle.supply.proofs.When.{relay_when, targeted_when, limited_when, switched_when}
 use Rattle.crc.specs.Judged.{judge_of}
 use Rattle.judge.specs.declared.Which.{Which}
 use Rattle.judge.specs.declared.Core.{Core}
-use Rattle.judge.specs.declared.Verdict.{Verdict}
-use Rattle.judge.specs.declared.Verdict.TheVariants.{Deny}
+use Rattle.judge.specs.Shapes.{Verdict}
 use Rattle.judge.specs.declared.Refusal.TheVariants.{StrayWord, WrongCount, UnknownCode}
 use Rattle.judge.specs.Commands.{carried, ordered, relay_cmd, iel_cmd, mask_cmd, mode_cmd, single_of, counted_of, block_of}
 use Rattle.judge.specs.Records.{supply_at}
@@ -30,7 +29,7 @@ use Rattle.rig.specs.declared.Kind.TheVariants.{Single, Head, Data, End}
 use Rattle.rig.specs.declared.Pending.{Pending}
 use Rattle.rig.specs.declared.Rig.{Rig}
 use Rattle.rig.specs.declared.Taken.{Taken}
-use Rattle.rig.specs.Words.{high_of, low_of, code_of, same_code, keeps, closes, settled_of, refused_of, head_of, fresh_of, verdict_of, closed_of, dropped_of, pending_of, take_of}
+use Rattle.rig.specs.Words.{high_of, low_of, code_of, same_code, keeps, closes, settled_of, refused_of, head_of, fresh_of, verdict_of, closed_of, dropped_of, pending_of, take_with, take_of}
 use Rattle.laws.specs.Results.{opened, grown, refused, waiting, swallowed, outcome, supplied}
 use Rattle.laws.specs.Rows.{single, Idle, Waits, SameCode, ExactlyOne, SupplyRow, CoreRow, SwitchWhen, on, off, bits, IelWhen, MaskWhen, ModeWhen, serial, parallel, other, Unlisted, PendingWhen, wrong_check, unknown, wrong_count_20, wrong_count_23, wrong_count_24, multiplexer, direction, energy, RowLaws}
 use Rattle.laws.proofs.Tests.{by_test, not_both, each}
@@ -39,7 +38,7 @@ use Rattle.laws.proofs.WordKinds.{of_kind, settled_is, supplied_is}
 
 -- a single of a code, with nothing pending, is judged
 judged : (r : Rig) (code low : ℕ) → code < 64 → low < 256 → Idle r → take_of r (single code low) ≡ settled_of r code (single_of r.core code low)
-unfolding fresh_of
+unfolding take_with fresh_of
 judged r code low h l i =
     let e : high_of (single code low) ≡ code = omega arith in
     let f : low_of (single code low) ≡ low = omega arith in
@@ -78,19 +77,19 @@ core_row : (code : ℕ) → code < 64 → (rule : Core → ℕ → Verdict) (Whe
 core_row code h rule When = row code h rule (λ c v. v) outcome settled_is When
 
 switch_here : (c : Core) (low : ℕ) (w : RelayWord) → RelayWhen low w → SwitchWhen c low (ordered c w)
-switch_here c low On h = on h
-switch_here c low Off h = off h
-switch_here c low (Bad supply.RelayBits) h = bits h
-switch_here c low (Bad supply.RelayOff) h = absurd h
-switch_here c low (Bad supply.Disabled) h = absurd h
-switch_here c low (Bad supply.OverLimit) h = absurd h
-switch_here c low (Bad supply.Unsettled) h = absurd h
-switch_here c low (Bad supply.OutOfRange) h = absurd h
+switch_here c low (Ok true) h = on h
+switch_here c low (Ok false) h = off h
+switch_here c low (Err supply.RelayBits) h = bits h
+switch_here c low (Err supply.RelayOff) h = absurd h
+switch_here c low (Err supply.Disabled) h = absurd h
+switch_here c low (Err supply.OverLimit) h = absurd h
+switch_here c low (Err supply.Unsettled) h = absurd h
+switch_here c low (Err supply.OutOfRange) h = absurd h
 
 switch_alone : (c : Core) (low : ℕ) (v : Verdict) → SwitchWhen c low v → v ≡ relay_cmd c low
-switch_alone c low v (on h) = ap (ordered c) (sym ((relay_when low On).1 h))
-switch_alone c low v (off h) = ap (ordered c) (sym ((relay_when low Off).1 h))
-switch_alone c low v (bits h) = ap (ordered c) (sym ((relay_when low (Bad supply.RelayBits)).1 h))
+switch_alone c low v (on h) = ap (ordered c) (sym ((relay_when low (Ok true)).1 h))
+switch_alone c low v (off h) = ap (ordered c) (sym ((relay_when low (Ok false)).1 h))
+switch_alone c low v (bits h) = ap (ordered c) (sym ((relay_when low (Err supply.RelayBits)).1 h))
 
 relay08 : CoreRow take_of 0x08 SwitchWhen
 unfolding single_of
@@ -131,7 +130,7 @@ mode_2b : CoreRow take_of 0x2B ModeWhen
 unfolding single_of
 mode_2b = core_row 0x2B (omega arith) mode_cmd ModeWhen mode_here mode_alone (λ c low. refl)
 
-unlisted : (c : Core) (code low : ℕ) → Unlisted code → single_of c code low ≡ Deny UnknownCode
+unlisted : (c : Core) (code low : ℕ) → Unlisted code → single_of c code low ≡ Err UnknownCode
 unfolding single_of
 unlisted c code low u =
     simp (ne_eqb _ _ u.not08, ne_eqb _ _ u.not_0c, ne_eqb _ _ u.not20, ne_eqb _ _ u.not21, ne_eqb _ _ u.not22, ne_eqb _ _ u.not23, ne_eqb _ _ u.not24, ne_eqb _ _ u.not26, ne_eqb _ _ u.not28, ne_eqb _ _ u.not29, ne_eqb _ _ u.not_2b, ne_eqb _ _ u.not_2c, ne_eqb _ _ u.not_2d)
@@ -139,44 +138,44 @@ unlisted c code low u =
 -- a word with nothing pending that is refused whatever its code
 module _ (r : Rig) (w : ℕ) (i : Idle r) where
   long : w / 0x4000 ≡ 1 → 79 < w % 256 → take_of r w ≡ refused r (w / 256) WrongCount
-  unfolding fresh_of head_of settled_of refused_of
+  unfolding take_with fresh_of head_of settled_of refused_of
   long e h = takes r w i (of_kind w Head e) ∙ simp (lt-ltb 79 (low_of w) h)
 
   waits : w / 0x4000 ≡ 1 → w % 256 ≤ 79 → take_of r w ≡ waiting r (opened (w / 256) (w % 256))
-  unfolding fresh_of head_of
+  unfolding take_with fresh_of head_of
   waits e h = takes r w i (of_kind w Head e) ∙ simp (le-ltb 79 (low_of w) h)
 
   stray_data : w / 0x4000 ≡ 2 → take_of r w ≡ refused r (w / 256) StrayWord
-  unfolding fresh_of settled_of refused_of
+  unfolding take_with fresh_of settled_of refused_of
   stray_data e = takes r w i (of_kind w Data e)
 
   stray_end : 3 ≤ w / 0x4000 → take_of r w ≡ refused r (w / 256) StrayWord
-  unfolding fresh_of settled_of refused_of
+  unfolding take_with fresh_of settled_of refused_of
   stray_end h = takes r w i (of_kind w End h)
 
 -- a data or end word that meets a block
-module _ (r : Rig) (w : ℕ) (p : Waits r) where
-  kept : w / 0x4000 ≡ 2 → SameCode r w → r.pending.got < r.pending.n → take_of r w ≡ waiting r (grown r.pending (w % 256))
-  unfolding pending_of
-  kept e c h = takes r w p (of_kind w Data e) ∙ rw (eq-eqb _ _ c, lt-ltb _ _ h, p) refl
+module _ (r : Rig) (w : ℕ) (p : Pending) (m : Waits r p) where
+  kept : w / 0x4000 ≡ 2 → SameCode p w → p.got < p.n → take_of r w ≡ waiting r (grown p (w % 256))
+  unfolding take_with pending_of
+  kept e c h = takes r w m (of_kind w Data e) ∙ rw (eq-eqb _ _ c, lt-ltb _ _ h) refl
 
-  swallowed_data : w / 0x4000 ≡ 2 → (SameCode r w → ⊥) ⊎ (r.pending.n ≤ r.pending.got) → take_of r w ≡ swallowed r r.pending.head
-  unfolding pending_of dropped_of refused_of
-  swallowed_data e (inl ne) = takes r w p (of_kind w Data e) ∙ rw (ne_eqb _ _ ne)
+  swallowed_data : w / 0x4000 ≡ 2 → (SameCode p w → ⊥) ⊎ (p.n ≤ p.got) → take_of r w ≡ swallowed r p.head
+  unfolding take_with pending_of dropped_of refused_of
+  swallowed_data e (inl ne) = takes r w m (of_kind w Data e) ∙ rw (ne_eqb _ _ ne)
   swallowed_data e (inr h) =
-      let f : keeps r.pending (high_of w) ≡ false = not_both (same_code r.pending (high_of w)) _ (le-ltb _ _ h) in
-      takes r w p (of_kind w Data e) ∙ rw f
+      let f : keeps p (high_of w) ≡ false = not_both (same_code p (high_of w)) _ (le-ltb _ _ h) in
+      takes r w m (of_kind w Data e) ∙ rw f
 
-  swallowed_end : 3 ≤ w / 0x4000 → (SameCode r w → ⊥) ⊎ (r.pending.got ≡ r.pending.n → ⊥) → take_of r w ≡ swallowed r r.pending.head
-  unfolding pending_of dropped_of refused_of
-  swallowed_end e (inl ne) = takes r w p (of_kind w End e) ∙ rw (ne_eqb _ _ ne)
+  swallowed_end : 3 ≤ w / 0x4000 → (SameCode p w → ⊥) ⊎ (p.got ≡ p.n → ⊥) → take_of r w ≡ swallowed r p.head
+  unfolding take_with pending_of dropped_of refused_of
+  swallowed_end e (inl ne) = takes r w m (of_kind w End e) ∙ rw (ne_eqb _ _ ne)
   swallowed_end e (inr ne) =
-      let f : closes r.pending (high_of w) ≡ false = not_both (same_code r.pending (high_of w)) _ (ne_eqb _ _ ne) in
-      takes r w p (of_kind w End e) ∙ rw f
+      let f : closes p (high_of w) ≡ false = not_both (same_code p (high_of w)) _ (ne_eqb _ _ ne) in
+      takes r w m (of_kind w End e) ∙ rw f
 
-  closed_is : 3 ≤ w / 0x4000 → SameCode r w → r.pending.got ≡ r.pending.n → take_of r w ≡ closed_of r (low_of w)
-  unfolding pending_of
-  closed_is e c h = takes r w p (of_kind w End e) ∙ rw (eq-eqb _ _ c, eq-eqb _ _ h)
+  closed_is : 3 ≤ w / 0x4000 → SameCode p w → p.got ≡ p.n → take_of r w ≡ closed_of r p (low_of w)
+  unfolding take_with pending_of
+  closed_is e c h = takes r w m (of_kind w End e) ∙ rw (eq-eqb _ _ c, eq-eqb _ _ h)
 
 closed_here : (c : Core) (p : Pending) (received : ℕ) → PendingWhen c p received (verdict_of (judge_of p.check received) c p)
 unfolding verdict_of block_of counted_of
@@ -216,17 +215,17 @@ row_laws =
       limit = λ x. supply_row x (limit_code x) (limit_code_lem x) limited LimitWhen limited_when (laws.limit x);
       stepping = λ x. supply_row x (stepping_code x) (stepping_code_lem x) switched StepWhen switched_when (laws.stepping x);
       unknown = λ r code low h l i u.
-          judged r code low h l i ∙ ap (settled_of r code) (unlisted r.core code low u) ∙ settled_is r code (Deny UnknownCode);
+          judged r code low h l i ∙ ap (settled_of r code) (unlisted r.core code low u) ∙ settled_is r code (Err UnknownCode);
       long = long;
       waits = waits;
       stray_data = stray_data;
       stray_end = stray_end;
       kept = kept;
-      closed = λ r w p e c h. record {
-        one = verdict_of (judge_of r.pending.check (low_of w)) r.core r.pending;
-        is = closed_here r.core r.pending (low_of w);
-        alone = closed_alone r.core r.pending (low_of w);
-        then = closed_is r w p e c h ∙ settled_is _ r.pending.head (verdict_of (judge_of r.pending.check (low_of w)) r.core r.pending);
+      closed = λ r w p m e c h. record {
+        one = verdict_of (judge_of p.check (low_of w)) r.core p;
+        is = closed_here r.core p (low_of w);
+        alone = closed_alone r.core p (low_of w);
+        then = closed_is r w p m e c h ∙ settled_is _ p.head (verdict_of (judge_of p.check (low_of w)) r.core p);
       };
       swallowed_data = swallowed_data;
       swallowed_end = swallowed_end;

@@ -1,8 +1,9 @@
 -- What every run keeps (specs/Runs): one invariant of the rig and its ledger, kept by each happening; a run is an induction over its happenings.
 -- Assumes nothing.
+use Rattle.std.specs.Prelude.{Option, Some, None, is_some}
 use Prim.Native.Nat.{ℕ, zero, suc, ◌+◌, ◌/◌, ◌%◌, ◌<◌, ◌≤◌}
 use mathlib.Core.Path.{◌≡◌, refl, ap, sym, subst, ◌∙◌}
-use mathlib.Core.Bool.{Bool, true, false}
+use mathlib.Core.Bool.{Bool, true, false, true≢false}
 use mathlib.Core.List.{List, [], ◌∷◌}
 use native.Mathlib.Omega.{arith}
 use native.Mathlib.Nat.{not-suc-le-zero}
@@ -24,6 +25,7 @@ use Rattle.judge.specs.Records.{supply_at}
 use Rattle.rig.specs.declared.Panel.{Panel}
 use Rattle.power.specs.declared.PanelSetting.{PanelSetting}
 use Rattle.power.specs.declared.PanelSetting.TheVariants.{Bias, Ground, FreeTime, Flap1, Flap2, Flap3}
+use Rattle.rig.specs.declared.Pending.{Pending}
 use Rattle.rig.specs.declared.Sending.{Sending}
 use Rattle.rig.specs.declared.Rig.{Rig}
 use Rattle.rig.specs.Records.{with_panel, with_sending}
@@ -32,14 +34,15 @@ use Rattle.rig.specs.Replies.{refusals_of}
 use Rattle.rig.specs.Start.{clear_sensor, off_supply, start_rig}
 use Rattle.power.specs.Power.{panel_of, spun_of, set_of}
 use Rattle.sending.specs.Sending.{held_of, bit, next_latch}
+use Rattle.laws.specs.Results.{none, check_in}
 use Rattle.laws.specs.Ordered.{Order, multiplexers, direction, energy, pair_of}
 use Rattle.laws.specs.Replies.{closing}
 use Rattle.laws.specs.Runs.{FitsPanel, Happening, word, spin, set, cut, frame, ours, happened, rig_after, held_as, Ledger, nothing_given, latest_error, latest_code, ordered_by, entered, ledger, rig_reached, given, SensorBounds, Bounds, panel_by, Kept, SetMoves, RunLaws}
-use Rattle.laws.proofs.Tests.{by_test, each}
+use Rattle.laws.proofs.Tests.{by_test, by_option, each}
 use Rattle.laws.proofs.Words.{case}
 use Rattle.laws.proofs.Replies.{reply_laws, ordered_word}
 use Rattle.laws.proofs.Commands.{Up, up}
-use Rattle.laws.proofs.Bounds.{nothing_fits, Fits, word_fits, Told, told}
+use Rattle.laws.proofs.Bounds.{PendingFits, fits_some, Fits, word_fits, Told, told}
 use Rattle.laws.proofs.Begun.{begun_word, closed_by_lem, check_of_lem, named_by_lem, ordered_by_lem}
 
 record PanelFits (p : Panel) : Type 0 where
@@ -85,7 +88,7 @@ start_inv =
       byte = omega arith;
       fits = (
         record { on = false; stop = off_up; start = off_up; deflection = off_up; mask = omega arith; sensor = clear_fits },
-        nothing_fits,
+        tt,
       );
       panel = record { bias = omega arith; ground = omega arith; free = omega arith };
       sending = record { next = omega arith; latch = omega arith };
@@ -93,6 +96,10 @@ start_inv =
       register = clear_pair;
       sensor = clear_fits;
     }
+
+check_fits : (o : Option Pending) → PendingFits o → check_in o < 0x100
+check_fits None h = omega arith
+check_fits (Some p) h = h.so_far
 
 word_inv : (r : Rig) (l : Ledger) (w : ℕ) (h : w < 0x10000) → Inv r l → Inv (take_of r w).rig (entered ours r (word w h) l)
 word_inv r l w h i =
@@ -105,11 +112,11 @@ word_inv r l w h i =
     let check = reply_laws.check r w in
     record {
       told = subst (λ (b : ℕ). Told q.faults (l.refusals + length (refusals_of reply)) (latest_error l.error reply) (latest_code l.last b (w / 256) reply)) (named_by_lem r l.begun w i.holds)
-          (told r q w reply l.refusals l.error l.last (reply_laws.moves r w) p.head high i.told);
+          (told r q w reply l.refusals l.error l.last (reply_laws.moves r w) p high i.told);
       counter = rw apart.edbs i.counter;
       holds = begun_word r l.begun w i.holds;
       check = check ∙ simp (closed_by_lem r l.begun w i.holds, check_of_lem r l.begun i.holds, i.check);
-      byte = rw check (by_test (◌< 0x100) (closing r w) (λ e. p.check) (λ e. i.byte));
+      byte = rw check (by_test (◌< 0x100) (closing r w) (λ e. check_fits r.pending p) (λ e. i.byte));
       fits = word_fits (case r w) high low i.fits;
       panel = rw apart.panel i.panel;
       sending = rw apart.sending i.sending;
@@ -183,7 +190,6 @@ always es = run_inv start_rig nothing_given es start_inv
 bounded : {r : Rig} {l : Ledger} → Inv r l → Bounds r
 bounded {r} i =
     let c = i.fits.0 in
-    let p = i.fits.1 in
     record {
       supply = λ x. let u = up r.core c x in record { target = u.safe.under; limit = u.safe.limit_small; level = u.safe.level_small; off = u.quiet };
       relays = λ x y. (up r.core c x).relay ∙ sym (up r.core c y).relay;
@@ -194,13 +200,8 @@ bounded {r} i =
       last = i.told.fits;
       count = let e = i.told.count in omega arith;
       check = i.byte;
-      n = p.n;
-      got = p.got;
-      head = p.head;
-      first = p.first;
-      second = p.second;
-      so_far = p.check;
-      idle = p.idle;
+      pending = λ b e. fits_some e i.fits.1;
+      idle = by_option {P = is_some r.pending ≡ false → r.pending ≡ none} r.pending (λ e k. e) (λ b e k. absurd (true≢false (sym (ap is_some e) ∙ k)));
       bias = i.panel.bias;
       ground = i.panel.ground;
       free = i.panel.free;

@@ -1,5 +1,6 @@
 -- What a word does to each supply (specs/Supplies): by the cases of a word; a relay word and a limit command by their rows.
 -- Assumes nothing.
+use Rattle.std.specs.Prelude.{Ok, Err}
 use Prim.Native.Nat.{ℕ, ◌/◌, ◌%◌, ◌<◌}
 use mathlib.Core.Path.{◌≡◌, refl, ap, sym, subst, ◌∙◌}
 use mathlib.Core.Bool.{Bool, true, false, ◌&&◌, ◌||◌, true≢false}
@@ -8,15 +9,13 @@ use lib.Dec.{eqb}
 use borrow.Author.Tests.{eqb-true}
 use Rattle.base.proofs.Cases.{split}
 use Rattle.supply.specs.declared.Supply.{Supply}
-use Rattle.supply.specs.declared.Change.{Change}
-use Rattle.supply.specs.declared.Change.TheVariants as change
+use Rattle.supply.specs.Shapes.{Change}
 use Rattle.supply.specs.declared.Refusal.TheVariants as supply
 use Rattle.supply.specs.When.{relay_set, LimitWhen}
 use Rattle.judge.specs.declared.Which.{Which}
 use Rattle.judge.specs.declared.Which.TheVariants.{Stop, Start, Deflection}
 use Rattle.judge.specs.declared.Core.{Core}
-use Rattle.judge.specs.declared.Verdict.{Verdict}
-use Rattle.judge.specs.declared.Verdict.TheVariants.{Apply, Deny}
+use Rattle.judge.specs.Shapes.{Verdict}
 use Rattle.judge.specs.Records.{supply_at}
 use Rattle.judge.specs.Table.{limit_code}
 use Rattle.rig.specs.declared.Rig.{Rig}
@@ -30,7 +29,7 @@ use Rattle.laws.specs.Results.{dropped_rig, outcome, supplied}
 use Rattle.laws.specs.Replies.{afterwards, Never}
 use Rattle.laws.specs.Rows.{single, Idle, relays_set, SwitchWhen, on, off, bits}
 use Rattle.laws.specs.Supplies.{commands, is_relay, was_accepted, SupplyWords}
-use Rattle.laws.proofs.Tests.{not_both, each}
+use Rattle.laws.proofs.Tests.{not_both, by_option, each}
 use Rattle.laws.proofs.Replies.{reply_laws}
 use Rattle.laws.proofs.Rows.{row_laws}
 use Rattle.laws.proofs.Words.{judged, begun, Case, idle, kept, closed, swallowed, again, case}
@@ -39,16 +38,16 @@ use Rattle.laws.proofs.Words.{judged, begun, Case, idle, kept, closed, swallowed
 left_case : (w : ℕ) (x : Which) {r : Rig} {b : Bool} {t : Taken} → Case r (high_of w) (low_of w) b t
     → was_accepted t.reply && (is_relay (w / 256) || commands x (w / 256)) ≡ false → supply_at t.rig.core x ≡ supply_at r.core x
 unfolding settled_of refused_of
-left_case w x (idle e j (judged (Apply c) h)) n = h.1.1 x n
-left_case w x (idle e j (judged (Deny why) h)) n = refl
+left_case w x (idle e j (judged (Ok c) h)) n = h.1.1 x n
+left_case w x (idle e j (judged (Err why) h)) n = refl
 left_case w x (idle e j (begun h)) n = refl
-left_case w x (kept e h) n = refl
-left_case w x (closed e (Apply c) h) n = h.1.1 x
-left_case w x (closed e (Deny why) h) n = refl
-left_case w x (swallowed e) n = refl
-left_case w x (again e j (judged (Apply c) h)) n = h.1.1 x n
-left_case w x (again e j (judged (Deny why) h)) n = refl
-left_case w x (again e j (begun h)) n = refl
+left_case w x (kept p e h) n = refl
+left_case w x (closed p e (Ok c) h) n = h.1.1 x
+left_case w x (closed p e (Err why) h) n = refl
+left_case w x (swallowed p e) n = refl
+left_case w x (again p e j (judged (Ok c) h)) n = h.1.1 x n
+left_case w x (again p e j (judged (Err why) h)) n = refl
+left_case w x (again p e j (begun h)) n = refl
 
 left : (r : Rig) (w : ℕ) (x : Which) → was_accepted (take_of r w).reply && (is_relay (w / 256) || commands x (w / 256)) ≡ false
     → supply_at (take_of r w).rig.core x ≡ supply_at r.core x
@@ -104,23 +103,23 @@ relay : (r : Rig) (w : ℕ) (x : Which) → is_relay (w / 256) ≡ true → was_
     → supply_at (take_of r w).rig.core x ≡ relay_set (supply_at r.core x) (eqb (w / 2 % 2) 1)
 relay r w x e a =
     let k = eqb-true (w / 256) 0x08 e in
-    let q = dropped_rig r r.pending.head in
-    split r.pending.waiting
-    (λ p.
-    let again = reply_laws.afresh r w p (omega arith) in
+    by_option r.pending
+    (λ i. relay_idle r w x i k a)
+    (λ p m.
+    let q = dropped_rig r p.head in
+    let again = reply_laws.afresh r w p m (omega arith) in
     ap (λ (t : Taken). supply_at t.rig.core x) again
     ∙ relay_idle q w x refl k (sym (still_accepted (take_of q w).reply) ∙ sym (ap (λ (t : Taken). was_accepted t.reply) again) ∙ a))
-    (λ i. relay_idle r w x i k a)
 
 -- 0Dh is no answer of the row of a limit; 03h, of a block dropped first, is another number
 limited : (r : Rig) (code : ℕ) (x : Which) (s : Supply) (low : ℕ) (ch : Change) → LimitWhen s low ch → Never 0x0D (refusals_of (supplied r code x ch).reply)
-limited r code x s low (change.Done n) h = tt
-limited r code x s low (change.Refused supply.Unsettled) h = (λ e. omega arith, tt)
-limited r code x s low (change.Refused supply.OutOfRange) h = absurd (omega (arith, h.1))
-limited r code x s low (change.Refused supply.RelayOff) h = absurd h
-limited r code x s low (change.Refused supply.Disabled) h = absurd h
-limited r code x s low (change.Refused supply.OverLimit) h = absurd h
-limited r code x s low (change.Refused supply.RelayBits) h = absurd h
+limited r code x s low (Ok n) h = tt
+limited r code x s low (Err supply.Unsettled) h = (λ e. omega arith, tt)
+limited r code x s low (Err supply.OutOfRange) h = absurd (omega (arith, h.1))
+limited r code x s low (Err supply.RelayOff) h = absurd h
+limited r code x s low (Err supply.Disabled) h = absurd h
+limited r code x s low (Err supply.OverLimit) h = absurd h
+limited r code x s low (Err supply.RelayBits) h = absurd h
 
 limit_idle : (r : Rig) (w : ℕ) (x : Which) → Idle r → w / 256 ≡ limit_code x → Never 0x0D (refusals_of (take_of r w).reply)
 limit_idle r w x i e =
@@ -139,10 +138,11 @@ still_never (Dropped a) n = n
 
 limit_never : (r : Rig) (w : ℕ) (x : Which) → w / 256 ≡ limit_code x → Never 0x0D (refusals_of (take_of r w).reply)
 limit_never r w x e =
-    let q = dropped_rig r r.pending.head in
-    split r.pending.waiting
-    (λ p. rw (reply_laws.afresh r w p (below_head w x e)) (still_never (take_of q w).reply (limit_idle q w x refl e)))
+    by_option r.pending
     (λ i. limit_idle r w x i e)
+    (λ p m.
+    let q = dropped_rig r p.head in
+    rw (reply_laws.afresh r w p m (below_head w x e)) (still_never (take_of q w).reply (limit_idle q w x refl e)))
 
 pub supply_words : SupplyWords take_of
 supply_words =

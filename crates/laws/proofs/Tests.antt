@@ -1,5 +1,6 @@
--- Proofs by a test: of a choice, and of two tests at once; and proofs of each supply.
+-- Proofs by a test: of a choice, of two tests at once, and of an option; and proofs of each supply.
 -- Assumes nothing.
+use Rattle.std.specs.Prelude.{Option, Some, None}
 use mathlib.Core.Path.{◌≡◌, refl}
 use mathlib.Core.Bool.{Bool, true, false, ◌&&◌, ◌||◌}
 use Rattle.base.specs.Pick.{pick}
@@ -11,9 +12,10 @@ pub by_test : {A : Type 0} {x y : A} (P : A → Type 0) (b : Bool) → (b ≡ tr
 by_test P true f g = f refl
 by_test P false f g = g refl
 
-pub and_left : (a b : Bool) → a && b ≡ true → a ≡ true
-and_left true b e = refl
-and_left false b e = e
+-- what holds whether there is a value or none
+pub by_option : {A P : Type 0} (o : Option A) → (o ≡ None → P) → ((x : A) → o ≡ Some x → P) → P
+by_option None f g = f refl
+by_option (Some x) f g = g x refl
 
 pub and_right : (a b : Bool) → a && b ≡ true → b ≡ true
 and_right true b e = e

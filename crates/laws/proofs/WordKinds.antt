@@ -1,5 +1,6 @@
 -- The kind of a word, by arithmetic and as the decoder has it; and what the decoder's helpers come to in the words of the laws.
 -- Assumes nothing.
+use Rattle.std.specs.Prelude.{Ok, Err, Option, Some, None}
 use mathlib.Core.Path.{◌≡◌, refl, ap, sym, subst, ◌∙◌}
 use mathlib.Core.Bool.{Bool, true, false, ◌&&◌}
 use Prim.Native.Nat.{ℕ, ◌/◌, ◌≤◌}
@@ -7,18 +8,17 @@ use native.Mathlib.Omega.{arith}
 use lib.Dec.{eqb, leb}
 use borrow.Author.Tests.{eqb-true, eqb-false, ne_eqb, le-leb}
 use Rattle.base.specs.Pick.{pick}
-use Rattle.supply.specs.declared.Change.{Change}
-use Rattle.supply.specs.declared.Change.TheVariants as supply
+use Rattle.supply.specs.Shapes.{Change}
 use Rattle.judge.specs.declared.Which.{Which}
-use Rattle.judge.specs.declared.Verdict.{Verdict}
-use Rattle.judge.specs.declared.Verdict.TheVariants.{Apply, Deny}
+use Rattle.judge.specs.Shapes.{Verdict}
 use Rattle.judge.specs.Commands.{carried}
 use Rattle.rig.specs.declared.Kind.{Kind}
 use Rattle.rig.specs.declared.Kind.TheVariants.{Single, Head, Data, End}
+use Rattle.rig.specs.declared.Pending.{Pending}
 use Rattle.rig.specs.declared.Rig.{Rig}
 use Rattle.rig.specs.Words.{high_of, kind_of, code_of, closes, settled_of, refused_of}
 use Rattle.laws.specs.Results.{outcome, supplied}
-use Rattle.laws.specs.Replies.{closing}
+use Rattle.laws.specs.Replies.{closing_of, closing}
 use Rattle.laws.proofs.Tests.{by_test}
 
 -- the number of a kind: all from 3 on are end words
@@ -112,19 +112,27 @@ data_test w = by_kind w (λ k. eqb (w / 0x4000) 2 ≡ is_data k) goes
     goes End h = ne_eqb _ _ (λ (e : w / 0x4000 ≡ 2). omega arith)
 
 -- whether the word closes the pending block, as the decoder has it
+abbrev pub closes_as : Option Pending → Kind → ℕ → Bool
+closes_as None k high = false
+closes_as (Some p) k high = is_end k && closes p high
+
 abbrev pub closes_it : Rig → ℕ → Bool
-closes_it r w = r.pending.waiting && (is_end (kind_of (high_of w)) && closes r.pending (high_of w))
+closes_it r w = closes_as r.pending (kind_of (high_of w)) (high_of w)
+
+closing_as : (o : Option Pending) (w : ℕ) → closing_of o w ≡ closes_as o (kind_of (high_of w)) (high_of w)
+closing_as None w = refl
+closing_as (Some p) w = ap (λ (b : Bool). b && closes p (high_of w)) (end_test w)
 
 pub closing_is : (r : Rig) (w : ℕ) → closing r w ≡ closes_it r w
-closing_is r w = ap (λ (b : Bool). r.pending.waiting && (b && closes r.pending (high_of w))) (end_test w)
+closing_is r w = closing_as r.pending w
 
 -- a verdict carried out, and the supply's answer
 pub settled_is : (r : Rig) (high : ℕ) (v : Verdict) → settled_of r high v ≡ outcome r high v
 unfolding settled_of refused_of
-settled_is r high (Apply c) = refl
-settled_is r high (Deny why) = refl
+settled_is r high (Ok c) = refl
+settled_is r high (Err why) = refl
 
 pub supplied_is : (x : Which) (r : Rig) (high : ℕ) (ch : Change) → settled_of r high (carried r.core x ch) ≡ supplied r high x ch
 unfolding settled_of refused_of carried
-supplied_is x r high (supply.Done s) = refl
-supplied_is x r high (supply.Refused why) = refl
+supplied_is x r high (Ok s) = refl
+supplied_is x r high (Err why) = refl

@@ -1,6 +1,6 @@
 -- A record with one part replaced has that part, and every other part as it was: said part by part, apart from the definitions.
 -- The rules of every command, spin, setting and frame are written with these. Assumes nothing.
-use Rattle.std.specs.Prelude.{◌≡◌, Bool, ℕ}
+use Rattle.std.specs.Prelude.{◌≡◌, Bool, ℕ, Option}
 use Rattle.base.specs.declared.Spins.{Spins}
 use Rattle.supply.specs.declared.Supply.{Supply}
 use Rattle.judge.specs.declared.Mux.{Mux}
@@ -28,7 +28,7 @@ SettingsAre s parallel mask iel sensor = (s.parallel ≡ parallel) × (s.mask �
 abbrev pub SensorIs : Sensor → Mux → Window → Window → Type 0
 SensorIs s mux direction energy = (s.mux ≡ mux) × (s.direction ≡ direction) × (s.energy ≡ energy)
 
-abbrev pub RigIs : Rig → Core → Sensor → Faults → Pending → ℕ → Panel → Sending → Spins → Type 0
+abbrev pub RigIs : Rig → Core → Sensor → Faults → Option Pending → ℕ → Panel → Sending → Spins → Type 0
 RigIs r core register faults pending check panel sending edbs =
     (r.core ≡ core) × (r.register ≡ register) × (r.faults ≡ faults) × (r.pending ≡ pending) × (r.check ≡ check) × (r.panel ≡ panel) × (r.sending ≡ sending) × (r.edbs ≡ edbs)
 
@@ -51,7 +51,7 @@ pub record Parts : Type 0 where
   pub core : (r : Rig) (x : Core) → RigIs (with_core r x) x r.register r.faults r.pending r.check r.panel r.sending r.edbs
   pub register : (r : Rig) (x : Sensor) → RigIs (with_register r x) r.core x r.faults r.pending r.check r.panel r.sending r.edbs
   pub faults : (r : Rig) (x : Faults) → RigIs (with_faults r x) r.core r.register x r.pending r.check r.panel r.sending r.edbs
-  pub pending : (r : Rig) (x : Pending) → RigIs (with_pending r x) r.core r.register r.faults x r.check r.panel r.sending r.edbs
+  pub pending : (r : Rig) (x : Option Pending) → RigIs (with_pending r x) r.core r.register r.faults x r.check r.panel r.sending r.edbs
   pub check : (r : Rig) (x : ℕ) → RigIs (with_check r x) r.core r.register r.faults r.pending x r.panel r.sending r.edbs
   pub panel : (r : Rig) (x : Panel) → RigIs (with_panel r x) r.core r.register r.faults r.pending r.check x r.sending r.edbs
   pub sending : (r : Rig) (x : Sending) → RigIs (with_sending r x) r.core r.register r.faults r.pending r.check r.panel x r.edbs

@@ -1,10 +1,10 @@
 -- The sensor's register: what moves it, and when an accepted block has reached it. For every rig, also those that no run reaches.
 -- Keeps 02 (ii): a command sets what was ordered, a spin copies it into the register, a power cut clears both. Assumes nothing.
-use Rattle.std.specs.Prelude.{◌≡◌, Bool, true, false, ◌&&◌, List, [], ◌∷◌, ◌++◌, ℕ, ◌%◌, ◌<◌, eqb}
+use Rattle.std.specs.Prelude.{◌≡◌, Bool, true, false, ◌&&◌, List, [], ◌∷◌, ◌++◌, ℕ, ◌<◌}
 use Rattle.base.specs.Pick.{pick}
 use Rattle.judge.specs.declared.Sensor.{Sensor}
 use Rattle.rig.specs.declared.Rig.{Rig}
-use Rattle.laws.specs.Ordered.{Order, order_code, pair_of, asked_by, is_accepted}
+use Rattle.laws.specs.Ordered.{Order, pair_of, is_of, asked_in, is_accepted}
 use Rattle.laws.specs.Replies.{closing}
 use Rattle.laws.specs.Runs.{Happening, word, spin, set, cut, frame, Machine, happened, rig_after}
 
@@ -23,7 +23,7 @@ clear =
 
 -- does the word w order this: does it close a block that is accepted, and of that code?
 abbrev pub orders : Machine → Order → Rig → ℕ → Bool
-orders m p r w = closing r w && (is_accepted (m.take r w).reply && eqb (r.pending.head % 64) (order_code p))
+orders m p r w = closing r w && (is_accepted (m.take r w).reply && is_of p r.pending)
 
 -- neither a spin nor a power cut
 abbrev pub Unspun : Happening → Type 0
@@ -64,9 +64,9 @@ pub record RegisterLaws (m : Machine) : Type 0 where
   pub start : (m.start.register ≡ clear) × (ordered_in m.start ≡ clear)
   -- an accepted block orders its part by its two data bytes; no other word orders anything: not a block that waits, is refused or dropped, nor a single
   pub ordered : (r : Rig) (w : ℕ) (p : Order)
-      → pair_of p (ordered_in (m.take r w).rig) ≡ pick (orders m p r w) (asked_by p r.pending.first r.pending.second) (pair_of p (ordered_in r))
+      → pair_of p (ordered_in (m.take r w).rig) ≡ pick (orders m p r w) (asked_in p r.pending) (pair_of p (ordered_in r))
   -- an accepted block, anything without a spin, a power cut or another accepted block of that code, one spin, and anything without a spin or a power cut:
   -- the register has what the block ordered. So of several orders before one spin the last counts.
   pub reaches : (r : Rig) (w : ℕ) (h : w < 0x10000) (p : Order) (fs gs : List Happening) → orders m p r w ≡ true
       → NoOrder m p (m.take r w).rig fs → NoSpin gs
-      → pair_of p (rig_after m r (word w h ∷ (fs ++ (spin ∷ gs)))).register ≡ asked_by p r.pending.first r.pending.second
+      → pair_of p (rig_after m r (word w h ∷ (fs ++ (spin ∷ gs)))).register ≡ asked_in p r.pending

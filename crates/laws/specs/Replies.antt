@@ -1,20 +1,21 @@
 -- What a word may move, by the reply that it gets: for every rig and every word, also rigs that no run reaches.
 -- Keeps 01 "Command words", its last paragraph: what a refusal sets, and that nothing else moves. Assumes nothing.
-use Rattle.std.specs.Prelude.{◌≡◌, Bool, true, ◌&&◌, List, [], ◌∷◌, ℕ, ◌/◌, ◌%◌, ◌<◌, eqb, leb}
+use Rattle.std.specs.Prelude.{◌≡◌, Bool, false, ◌&&◌, List, [], ◌∷◌, ℕ, ◌/◌, ◌%◌, ◌<◌, eqb, leb, Option, Some, None}
 use Rattle.base.specs.Pick.{pick}
 use Rattle.judge.specs.Refusals.{number_of}
 use Rattle.rig.specs.declared.Faults.{Faults}
+use Rattle.rig.specs.declared.Pending.{Pending}
 use Rattle.rig.specs.declared.Rig.{Rig}
 use Rattle.rig.specs.declared.Answer.TheVariants.{Accepted, Waiting, Refused}
 use Rattle.rig.specs.declared.Reply.{Reply}
 use Rattle.rig.specs.declared.Reply.TheVariants.{Plain, Swallowed, Dropped}
 use Rattle.rig.specs.declared.Taken.{Taken}
 use Rattle.rig.specs.Replies.{refusals_of}
-use Rattle.laws.specs.Results.{none, opened, grown, booked, dropped_rig}
+use Rattle.laws.specs.Results.{none, opened, continued, named, check_in, booked, dropped_rig}
 
 -- 03h, booked under the dropped head's byte
-abbrev pub booked_drop : Rig → Faults
-booked_drop r = booked r.faults r.pending.head 0x03
+abbrev pub booked_drop : Rig → Pending → Faults
+booked_drop r p = booked r.faults p.head 0x03
 
 -- what no word ever moves
 pub record Apart (r q : Rig) : Type 0 where
@@ -23,9 +24,9 @@ pub record Apart (r q : Rig) : Type 0 where
   pub edbs : q.edbs ≡ r.edbs
   pub register : q.register ≡ r.register
 
--- a block that was pending is ended, and where none was, nothing of it moves
+-- a block that was pending is ended, and where none was, none is
 abbrev pub Ended : Rig → Rig → Type 0
-Ended r q = q.pending ≡ pick r.pending.waiting none r.pending
+Ended r q = q.pending ≡ none
 
 -- what a refusal leaves: the core as it was, and no block
 pub record Unmoved (r q : Rig) : Type 0 where
@@ -39,23 +40,26 @@ After r w q (Plain Accepted) = (q.faults ≡ r.faults) × Ended r q
 -- waiting: only the pending block moves: a head's new empty block, or one byte more
 After r w q (Plain Waiting) =
     (q.core ≡ r.core) × (q.faults ≡ r.faults)
-    × (q.pending ≡ pick r.pending.waiting (grown r.pending (w % 256)) (opened (w / 256) (w % 256)))
+    × (q.pending ≡ Some (continued r.pending w))
 -- refused: booked once, under the word's own high byte, or the head's where the word closed a block
 After r w q (Plain (Refused why)) =
-    Unmoved r q × (q.faults ≡ booked r.faults (pick r.pending.waiting r.pending.head (w / 256)) (number_of why))
+    Unmoved r q × (q.faults ≡ booked r.faults (named r.pending (w / 256)) (number_of why))
 -- swallowed: a block was pending; 03h
-After r w q Swallowed = (r.pending.waiting ≡ true) × Unmoved r q × (q.faults ≡ booked_drop r)
+After r w q Swallowed = (p : Pending) × (r.pending ≡ Some p) × Unmoved r q × (q.faults ≡ booked_drop r p)
 -- dropped, then judged afresh: a block was pending; 03h, and what the second answer moves
-After r w q (Dropped Accepted) = (r.pending.waiting ≡ true) × (q.faults ≡ booked_drop r) × Ended r q
+After r w q (Dropped Accepted) = (p : Pending) × (r.pending ≡ Some p) × (q.faults ≡ booked_drop r p) × Ended r q
 After r w q (Dropped Waiting) =
-    (r.pending.waiting ≡ true) × (q.core ≡ r.core) × (q.faults ≡ booked_drop r) × (q.pending ≡ opened (w / 256) (w % 256))
+    (p : Pending) × (r.pending ≡ Some p) × (q.core ≡ r.core) × (q.faults ≡ booked_drop r p) × (q.pending ≡ Some (opened (w / 256) (w % 256)))
 After r w q (Dropped (Refused why)) =
-    (r.pending.waiting ≡ true) × Unmoved r q × (q.faults ≡ booked (booked_drop r) (w / 256) (number_of why))
+    (p : Pending) × (r.pending ≡ Some p) × Unmoved r q × (q.faults ≡ booked (booked_drop r p) (w / 256) (number_of why))
 
 -- does the word close the pending block: an end word of its code, after exactly n data words?
+abbrev pub closing_of : Option Pending → ℕ → Bool
+closing_of None w = false
+closing_of (Some p) w = leb 3 (w / 0x4000) && (eqb (w / 256 % 64) (p.head % 64) && eqb p.got p.n)
+
 abbrev pub closing : Rig → ℕ → Bool
-closing r w =
-    r.pending.waiting && (leb 3 (w / 0x4000) && (eqb (w / 256 % 64) (r.pending.head % 64) && eqb r.pending.got r.pending.n))
+closing r w = closing_of r.pending w
 
 -- the same answer, told after a drop
 abbrev pub afterwards : Reply → Reply
@@ -74,9 +78,9 @@ pub record ReplyLaws (take : Rig → ℕ → Taken) : Type 0 where
   pub moves : (r : Rig) (w : ℕ) → After r w (take r w).rig (take r w).reply
   pub apart : (r : Rig) (w : ℕ) → Apart r (take r w).rig
   -- the last check is set when a block closes, right or wrong, and never otherwise
-  pub check : (r : Rig) (w : ℕ) → (take r w).rig.check ≡ pick (closing r w) r.pending.check r.check
+  pub check : (r : Rig) (w : ℕ) → (take r w).rig.check ≡ pick (closing r w) (check_in r.pending) r.check
   -- a single or head that meets a pending block: 03h is booked, and then the word does what it does with nothing pending
-  pub afresh : (r : Rig) (w : ℕ) → r.pending.waiting ≡ true → w / 0x4000 < 2
-      → let q = dropped_rig r r.pending.head in take r w ≡ record { rig = (take q w).rig; reply = afterwards (take q w).reply }
+  pub afresh : (r : Rig) (w : ℕ) (p : Pending) → r.pending ≡ Some p → w / 0x4000 < 2
+      → let q = dropped_rig r p.head in take r w ≡ record { rig = (take q w).rig; reply = afterwards (take q w).reply }
   -- 07h is never given
   pub never07 : (r : Rig) (w : ℕ) → Never 0x07 (refusals_of (take r w).reply)

@@ -1,15 +1,13 @@
 -- What the answer to a word leaves of the rig, part by part. The laws are said with this and with arithmetic, and with none of the decoder's own
 -- helpers but `withX`, a record with one part replaced: so the two are written apart. Keeps 01 "Command words". Assumes nothing.
 -- A word w is of the kind w / 0x4000 (0 single, 1 head, 2 data, 3 end) and the code w / 256 % 64; its high byte is w / 256, its low byte w % 256.
-use Rattle.std.specs.Prelude.{true, false, ℕ, ◌+◌, ◌%◌, eqb}
+use Rattle.std.specs.Prelude.{ℕ, ◌+◌, ◌/◌, ◌%◌, eqb, Ok, Err, Option, Some, None}
 use Rattle.base.specs.Pick.{pick}
 use Rattle.crc.specs.Crc.{crc_byte}
-use Rattle.supply.specs.declared.Change.{Change}
-use Rattle.supply.specs.declared.Change.TheVariants as supply
+use Rattle.supply.specs.Shapes.{Change}
 use Rattle.judge.specs.declared.Which.{Which}
 use Rattle.judge.specs.declared.Core.{Core}
-use Rattle.judge.specs.declared.Verdict.{Verdict}
-use Rattle.judge.specs.declared.Verdict.TheVariants.{Apply, Deny}
+use Rattle.judge.specs.Shapes.{Verdict}
 use Rattle.judge.specs.declared.Refusal.{Refusal}
 use Rattle.judge.specs.Refusals.{number_of, raised}
 use Rattle.judge.specs.Records.{with_supply}
@@ -22,16 +20,15 @@ use Rattle.rig.specs.declared.Taken.{Taken}
 use Rattle.rig.specs.Records.{with_core, with_faults, with_pending, with_check}
 
 -- no block pending; a block that a head has begun, of which no data word has come; and one byte more of it: the first two are kept, the check goes on
-abbrev pub none : Pending
-none = record { waiting = false; head = 0; n = 0; got = 0; first = 0; second = 0; check = 0 }
+abbrev pub none : Option Pending
+none = None
 
 abbrev pub opened : ℕ → ℕ → Pending
-opened head n = record { waiting = true; head = head; n = n; got = 0; first = 0; second = 0; check = 0 }
+opened head n = record { head = head; n = n; got = 0; first = 0; second = 0; check = 0 }
 
 abbrev pub grown : Pending → ℕ → Pending
 grown p b =
     record {
-      waiting = true;
       head = p.head;
       n = p.n;
       got = p.got + 1;
@@ -40,13 +37,28 @@ grown p b =
       check = crc_byte p.check b;
     }
 
+-- the block that waits once the word w has: the one that w begins, or the one that was pending, with one byte more
+abbrev pub continued : Option Pending → ℕ → Pending
+continued None w = opened (w / 256) (w % 256)
+continued (Some p) w = grown p (w % 256)
+
+-- the high byte that a refusal is booked under: the word's own, or the head's where a block was pending
+abbrev pub named : Option Pending → ℕ → ℕ
+named None own = own
+named (Some p) own = p.head
+
+-- the check of a block so far; 0 where none is pending
+abbrev pub check_in : Option Pending → ℕ
+check_in None = 0
+check_in (Some p) = p.check
+
 -- a refusal of that number, booked under that high byte; the count goes from 255 to 0
 abbrev pub booked : Faults → ℕ → ℕ → Faults
 booked f high number = record { error = number; last = high; count = (f.count + 1) % 256 }
 
 -- the rig in which the block p is pending, and nothing else has moved
 abbrev pub blocked : Rig → Pending → Rig
-blocked r p = with_pending r p
+blocked r p = with_pending r (Some p)
 
 -- the rig whose block was closed: nothing is pending, the last check is k
 abbrev pub closed_rig : Rig → ℕ → Rig
@@ -74,9 +86,9 @@ swallowed r head = record { rig = dropped_rig r head; reply = Swallowed }
 
 -- by a verdict, and by what the supply x answers
 abbrev pub outcome : Rig → ℕ → Verdict → Taken
-outcome r high (Apply c) = accepted r c
-outcome r high (Deny why) = refused r high why
+outcome r high (Ok c) = accepted r c
+outcome r high (Err why) = refused r high why
 
 abbrev pub supplied : Rig → ℕ → Which → Change → Taken
-supplied r high x (supply.Done s) = accepted r (with_supply r.core x s)
-supplied r high x (supply.Refused why) = refused r high (raised why)
+supplied r high x (Ok s) = accepted r (with_supply r.core x s)
+supplied r high x (Err why) = refused r high (raised why)

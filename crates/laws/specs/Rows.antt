@@ -1,17 +1,15 @@
 -- The command table, row by row, as a reader checks it: each row lists its verdicts with the exact ground of each, in the order of the refusals.
 -- Keeps 01 "Command words": its table, and the paragraphs on words with nothing pending and on pending blocks; 02 (iv): the rows of stop are those of
 -- each supply, with codes of its own. Assumes nothing.
-use Rattle.std.specs.Prelude.{◌≡◌, Bool, true, false, ◌⊎◌, ℕ, ◌+◌, ◌*◌, ◌/◌, ◌%◌, ◌<◌, ◌≤◌, eqb}
+use Rattle.std.specs.Prelude.{◌≡◌, Bool, true, false, ◌⊎◌, ℕ, ◌+◌, ◌*◌, ◌/◌, ◌%◌, ◌<◌, ◌≤◌, eqb, Ok, Err, Some, None}
 use Rattle.supply.specs.declared.Supply.{Supply}
-use Rattle.supply.specs.declared.Change.{Change}
+use Rattle.supply.specs.Shapes.{Change}
 use Rattle.supply.specs.declared.Refusal.TheVariants as supply
-use Rattle.supply.specs.declared.RelayWord.TheVariants.{On, Off, Bad}
 use Rattle.supply.specs.When.{RelayWhen, relay_set, TargetWhen, LimitWhen, StepWhen}
 use Rattle.judge.specs.declared.Which.{Which}
 use Rattle.judge.specs.declared.Core.{Core}
 use Rattle.judge.specs.declared.Sensor.{Sensor}
-use Rattle.judge.specs.declared.Verdict.{Verdict}
-use Rattle.judge.specs.declared.Verdict.TheVariants.{Apply, Deny}
+use Rattle.judge.specs.Shapes.{Verdict}
 use Rattle.judge.specs.declared.Refusal.TheVariants.{StrayWord, RelayBits, WrongCheck, OutOfRange, WrongCount, UnknownCode}
 use Rattle.judge.specs.Records.{supply_at, with_settings, with_parallel, with_mask, with_iel, with_sensor, with_mux, with_direction, with_energy}
 use Rattle.judge.specs.Table.{target_code, limit_code, stepping_code}
@@ -27,14 +25,14 @@ single code low = code * 256 + low
 
 -- no block is pending
 abbrev pub Idle : Rig → Type 0
-Idle r = r.pending.waiting ≡ false
+Idle r = r.pending ≡ None
 
--- a block is pending; and the word is of its code
-abbrev pub Waits : Rig → Type 0
-Waits r = r.pending.waiting ≡ true
+-- the block p is pending; and the word is of its code
+abbrev pub Waits : Rig → Pending → Type 0
+Waits r p = r.pending ≡ Some p
 
-abbrev pub SameCode : Rig → ℕ → Type 0
-SameCode r w = w / 256 % 64 ≡ r.pending.head % 64
+abbrev pub SameCode : Pending → ℕ → Type 0
+SameCode p w = w / 256 % 64 ≡ p.head % 64
 
 -- exactly one x is as P says, and of that one Q is true
 pub record ExactlyOne {A : Type 0} (P Q : A → Type 0) : Type 0 where
@@ -61,23 +59,23 @@ relays_set c on =
 
 -- single 08h: whether on, off or neither hangs on the low byte alone
 pub data SwitchWhen (c : Core) (low : ℕ) : Verdict → Type 0 where
-  on : RelayWhen low On → SwitchWhen c low (Apply (relays_set c true))
-  off : RelayWhen low Off → SwitchWhen c low (Apply (relays_set c false))
-  bits : RelayWhen low (Bad supply.RelayBits) → SwitchWhen c low (Deny RelayBits)
+  on : RelayWhen low (Ok true) → SwitchWhen c low (Ok (relays_set c true))
+  off : RelayWhen low (Ok false) → SwitchWhen c low (Ok (relays_set c false))
+  bits : RelayWhen low (Err supply.RelayBits) → SwitchWhen c low (Err RelayBits)
 
 -- single 0Ch: bit 0 IEL clock, bit 1 IEL enable; nothing else moves
 abbrev pub IelWhen : Core → ℕ → Verdict → Type 0
-IelWhen c low v = v ≡ Apply (with_settings c (with_iel c.settings (record { clock = eqb (low % 2) 1; enable = eqb (low / 2 % 2) 1 })))
+IelWhen c low v = v ≡ Ok (with_settings c (with_iel c.settings (record { clock = eqb (low % 2) 1; enable = eqb (low / 2 % 2) 1 })))
 
 -- single 26h: bits 2-0 head mask; nothing else moves
 abbrev pub MaskWhen : Core → ℕ → Verdict → Type 0
-MaskWhen c low v = v ≡ Apply (with_settings c (with_mask c.settings (low % 8)))
+MaskWhen c low v = v ≡ Ok (with_settings c (with_mask c.settings (low % 8)))
 
 -- single 2Bh: the whole low byte counts
 pub data ModeWhen (c : Core) (low : ℕ) : Verdict → Type 0 where
-  serial : low ≡ 0 → ModeWhen c low (Apply (with_settings c (with_parallel c.settings false)))
-  parallel : low ≡ 1 → ModeWhen c low (Apply (with_settings c (with_parallel c.settings true)))
-  other : 1 < low → ModeWhen c low (Deny OutOfRange)
+  serial : low ≡ 0 → ModeWhen c low (Ok (with_settings c (with_parallel c.settings false)))
+  parallel : low ≡ 1 → ModeWhen c low (Ok (with_settings c (with_parallel c.settings true)))
+  other : 1 < low → ModeWhen c low (Err OutOfRange)
 
 -- a code of no row
 pub record Unlisted (code : ℕ) : Type 0 where
@@ -112,14 +110,14 @@ energy_by c x y = sensing c (with_energy c.settings.sensor (record { start = x %
 -- A closed block of that code, with n data words of which the first two are x and y, whose check was computed and received: 0Bh, 0Fh, 0Eh in this
 -- order, then apply.
 pub data ClosedWhen (c : Core) (code n x y computed received : ℕ) : Verdict → Type 0 where
-  wrong_check : (received ≡ computed → ⊥) → ClosedWhen c code n x y computed received (Deny WrongCheck)
-  unknown : received ≡ computed → (code ≡ 0x20 → ⊥) → (code ≡ 0x23 → ⊥) → (code ≡ 0x24 → ⊥) → ClosedWhen c code n x y computed received (Deny UnknownCode)
-  wrong_count_20 : received ≡ computed → code ≡ 0x20 → (n ≡ 2 → ⊥) → ClosedWhen c code n x y computed received (Deny WrongCount)
-  wrong_count_23 : received ≡ computed → code ≡ 0x23 → (n ≡ 2 → ⊥) → ClosedWhen c code n x y computed received (Deny WrongCount)
-  wrong_count_24 : received ≡ computed → code ≡ 0x24 → (n ≡ 2 → ⊥) → ClosedWhen c code n x y computed received (Deny WrongCount)
-  multiplexer : received ≡ computed → code ≡ 0x20 → n ≡ 2 → ClosedWhen c code n x y computed received (Apply (multiplexer_by c x y))
-  direction : received ≡ computed → code ≡ 0x23 → n ≡ 2 → ClosedWhen c code n x y computed received (Apply (direction_by c x y))
-  energy : received ≡ computed → code ≡ 0x24 → n ≡ 2 → ClosedWhen c code n x y computed received (Apply (energy_by c x y))
+  wrong_check : (received ≡ computed → ⊥) → ClosedWhen c code n x y computed received (Err WrongCheck)
+  unknown : received ≡ computed → (code ≡ 0x20 → ⊥) → (code ≡ 0x23 → ⊥) → (code ≡ 0x24 → ⊥) → ClosedWhen c code n x y computed received (Err UnknownCode)
+  wrong_count_20 : received ≡ computed → code ≡ 0x20 → (n ≡ 2 → ⊥) → ClosedWhen c code n x y computed received (Err WrongCount)
+  wrong_count_23 : received ≡ computed → code ≡ 0x23 → (n ≡ 2 → ⊥) → ClosedWhen c code n x y computed received (Err WrongCount)
+  wrong_count_24 : received ≡ computed → code ≡ 0x24 → (n ≡ 2 → ⊥) → ClosedWhen c code n x y computed received (Err WrongCount)
+  multiplexer : received ≡ computed → code ≡ 0x20 → n ≡ 2 → ClosedWhen c code n x y computed received (Ok (multiplexer_by c x y))
+  direction : received ≡ computed → code ≡ 0x23 → n ≡ 2 → ClosedWhen c code n x y computed received (Ok (direction_by c x y))
+  energy : received ≡ computed → code ≡ 0x24 → n ≡ 2 → ClosedWhen c code n x y computed received (Ok (energy_by c x y))
 
 -- the pending block, closed by an end word with this low byte
 abbrev pub PendingWhen : Core → Pending → ℕ → Verdict → Type 0
@@ -145,15 +143,15 @@ pub record RowLaws (take : Rig → ℕ → Taken) : Type 0 where
   pub stray_data : (r : Rig) (w : ℕ) → Idle r → w / 0x4000 ≡ 2 → take r w ≡ refused r (w / 256) StrayWord
   pub stray_end : (r : Rig) (w : ℕ) → Idle r → 3 ≤ w / 0x4000 → take r w ≡ refused r (w / 256) StrayWord
   -- block pending: a data word of the same code, with room left, is kept
-  pub kept : (r : Rig) (w : ℕ) → Waits r → w / 0x4000 ≡ 2 → SameCode r w → r.pending.got < r.pending.n → take r w ≡ waiting r (grown r.pending (w % 256))
+  pub kept : (r : Rig) (w : ℕ) (p : Pending) → Waits r p → w / 0x4000 ≡ 2 → SameCode p w → p.got < p.n → take r w ≡ waiting r (grown p (w % 256))
   -- an end word of the same code after exactly n data words closes it, and the block is judged; the last check is the computed one, right or wrong
-  pub closed : (r : Rig) (w : ℕ) → Waits r → 3 ≤ w / 0x4000 → SameCode r w → r.pending.got ≡ r.pending.n
-      → ExactlyOne (PendingWhen r.core r.pending (w % 256)) (λ v. take r w ≡ outcome (closed_rig r r.pending.check) r.pending.head v)
+  pub closed : (r : Rig) (w : ℕ) (p : Pending) → Waits r p → 3 ≤ w / 0x4000 → SameCode p w → p.got ≡ p.n
+      → ExactlyOne (PendingWhen r.core p (w % 256)) (λ v. take r w ≡ outcome (closed_rig r p.check) p.head v)
   -- each other data or end word is swallowed with the block it drops
-  pub swallowed_data : (r : Rig) (w : ℕ) → Waits r → w / 0x4000 ≡ 2 → (SameCode r w → ⊥) ⊎ (r.pending.n ≤ r.pending.got)
-      → take r w ≡ swallowed r r.pending.head
-  pub swallowed_end : (r : Rig) (w : ℕ) → Waits r → 3 ≤ w / 0x4000 → (SameCode r w → ⊥) ⊎ (r.pending.got ≡ r.pending.n → ⊥)
-      → take r w ≡ swallowed r r.pending.head
+  pub swallowed_data : (r : Rig) (w : ℕ) (p : Pending) → Waits r p → w / 0x4000 ≡ 2 → (SameCode p w → ⊥) ⊎ (p.n ≤ p.got)
+      → take r w ≡ swallowed r p.head
+  pub swallowed_end : (r : Rig) (w : ℕ) (p : Pending) → Waits r p → 3 ≤ w / 0x4000 → (SameCode p w → ⊥) ⊎ (p.got ≡ p.n → ⊥)
+      → take r w ≡ swallowed r p.head
 
 -- These laws and those of the replies leave a word one answer and one rig: two functions that keep them agree at every rig and every word.
 abbrev pub OneTake : Type 0

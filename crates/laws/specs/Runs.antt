@@ -1,6 +1,6 @@
 -- Runs of a rig from the start: any words, spins, settings, power cuts and frames, in any order and number; and what every run keeps.
 -- Keeps 01 "Command words" (counts and codes), "Spins and power", the widths of "The 40-byte frame"; 02 (ii), the register; 02 (iv). Assumes nothing.
-use Rattle.std.specs.Prelude.{◌≡◌, Bool, true, false, ◌&&◌, ◌||◌, List, [], ◌∷◌, ◌++◌, ℕ, ◌+◌, ◌/◌, ◌%◌, ◌<◌, ◌≤◌, eqb, leb, ltb, length, get_or}
+use Rattle.std.specs.Prelude.{◌≡◌, Bool, true, false, ◌&&◌, ◌||◌, List, [], ◌∷◌, ◌++◌, ℕ, ◌+◌, ◌/◌, ◌%◌, ◌<◌, ◌≤◌, eqb, leb, ltb, length, get_or, Option, Some, is_some}
 use Rattle.base.specs.Pick.{pick}
 use Rattle.base.specs.Counts.{spin_more}
 use Rattle.crc.specs.Crc.{crc_of}
@@ -105,9 +105,9 @@ named_by nothing w = w / 256
 named_by (block h n s) w = h
 
 -- what the rig holds of it
-abbrev pub held_as : Begun → Pending
+abbrev pub held_as : Begun → Option Pending
 held_as nothing = none
-held_as (block h n s) = holding h n s
+held_as (block h n s) = Some (holding h n s)
 
 -- what is ordered after a word with this reply: where it closes a block that is accepted, and of that code, what the first two bytes order; else what was
 abbrev pub ordered_by : Order → Begun → ℕ → Reply → ℕ × ℕ → ℕ × ℕ
@@ -218,6 +218,15 @@ pub record SupplyBounds (s : Supply) : Type 0 where
   pub level : s.level ≤ 15
   pub off : Quiet s
 
+-- the bounds of a pending block
+pub record PendingBounds (p : Pending) : Type 0 where
+  pub n : p.n ≤ 79
+  pub got : p.got ≤ p.n
+  pub head : p.head < 0x100
+  pub first : p.first < 0x100
+  pub second : p.second < 0x100
+  pub so_far : p.check < 0x100
+
 -- the bounds of every field
 pub record Bounds (r : Rig) : Type 0 where
   -- each supply; and the relay is common, so the three records agree on it
@@ -233,15 +242,9 @@ pub record Bounds (r : Rig) : Type 0 where
   pub last : r.faults.last < 0x100
   pub count : r.faults.count < 0x100
   pub check : r.check < 0x100
-  -- the pending block
-  pub n : r.pending.n ≤ 79
-  pub got : r.pending.got ≤ r.pending.n
-  pub head : r.pending.head < 0x100
-  pub first : r.pending.first < 0x100
-  pub second : r.pending.second < 0x100
-  pub so_far : r.pending.check < 0x100
-  -- nothing pending is one value
-  pub idle : r.pending.waiting ≡ false → r.pending ≡ none
+  -- the pending block, where there is one; nothing pending is one value
+  pub pending : (p : Pending) → r.pending ≡ Some p → PendingBounds p
+  pub idle : is_some r.pending ≡ false → r.pending ≡ none
   -- the panel, the next frame, the counter
   pub bias : r.panel.bias < 0x100
   pub ground : r.panel.ground < 0x100

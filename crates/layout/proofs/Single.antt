@@ -6,8 +6,8 @@ use Prim.Native.Nat.{ℕ}
 use contract.Lifetimes.{Lfts}
 use denote.Ref.{Bor}
 use Rattle.base.proofs.Single.{same}
-use Rattle.block.specs.declared.Layout.{Layout}
+use Rattle.block.specs.Shapes.{Found}
 use Rattle.layout.proofs.layout_of.Reads as layout_of
 
-pub layout_of_one : (κs : Lfts 1) (b : Bor (List ℕ)) (r q : Layout) → layout_of.Post κs (b, tt) r (b, tt) → layout_of.Post κs (b, tt) q (b, tt) → r ≡ q
+pub layout_of_one : (κs : Lfts 1) (b : Bor (List ℕ)) (r q : Found) → layout_of.Post κs (b, tt) r (b, tt) → layout_of.Post κs (b, tt) q (b, tt) → r ≡ q
 layout_of_one κs b r q m n = same m n

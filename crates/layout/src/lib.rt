@@ -6,24 +6,9 @@ ghost use Rattle.std.specs.Prelude.{◌≡◌, ◌+◌, ◌≤◌, length};
 ghost use Rattle.block.specs.Kinds.{length_of, second_at};
 ghost use Rattle.block.specs.Layout.{marker, inner, layout_of};
 ghost use Rattle.block.specs.Steps.{as_kind};
-ghost use Rattle.layout.specs.Steps.{layout_by, sort_of};
+ghost use Rattle.layout.specs.Steps.{kind_by};
 
 use block::{Kind, Layout, Refusal};
-
-// What a block was found to be, descriptors aside.
-#[derive(Clone, Copy)]
-enum Sort {
-    Nm,
-    Bm1,
-    NoMarker,
-    WrongLength,
-    InnerMarker,
-}
-
-// The same as `Layout`, with the descriptors in one place whatever the case, so that the compiler can keep them out of memory.
-// Where the block is refused they say nothing.
-#[derive(Clone, Copy)]
-struct Seen(Sort, u8, u8);
 
 // Where the first content descriptor stands.
 const D1: usize = 0x004;
@@ -44,7 +29,7 @@ fn is_marker(b: &[u8], at: usize, x: u8, y: u8, z: u8) -> bool
     requires { at + 3 ≤ length b.now }
     ensures { result ≡ marker b.now at x y z }
 {
-    b[at] == x && (b[at + 1] == y && b[at + 2] == z)
+    b[at..at + 3] == [x, y, z]
 }
 
 // Whether the inner markers of a kind stand, if it has any.
@@ -58,63 +43,44 @@ fn is_inner(b: &[u8], kind: Kind) -> bool
     }
 }
 
-fn sort_of(kind: Kind) -> Sort
-    ensures { result ≡ sort_of kind }
-{
-    match kind {
-        Kind::Nm => Sort::Nm,
-        Kind::Bm1 => Sort::Bm1,
-    }
-}
-
 // What follows a kind's marker. A memory dump has only the first marker, so neither descriptor 2 nor the inner ones are looked at there.
 #[tactic(auto, unfolding(block::specs::Steps::as_kind))]
-fn seen_as(b: &[u8], kind: Kind) -> Seen
-    ensures { layout_by result ≡ as_kind b.now kind }
+fn layout_as(b: &[u8], kind: Kind) -> Result<Layout, Refusal>
+    ensures { result ≡ as_kind b.now kind }
 {
     if b.len() != block::length_of(kind) {
-        return Seen(Sort::WrongLength, 0, 0);
+        return Err(Refusal::WrongLength);
     }
-    let sort = sort_of(kind);
-    if b[D1] / 4 % 2 == 1 {
-        return Seen(sort, b[D1], 0);
+    let d1 = b[D1];
+    if d1 / 4 % 2 == 1 {
+        return Ok(Layout { kind, d1, d2: 0 });
     }
-    if is_inner(b, kind) {
-        return Seen(sort, b[D1], b[second_at(kind)]);
+    if !is_inner(b, kind) {
+        return Err(Refusal::InnerMarker);
     }
-    Seen(Sort::InnerMarker, 0, 0)
+    let d2 = b[second_at(kind)];
+    Ok(Layout { kind, d1, d2 })
 }
 
-// What a block is, or the first of 20 (under 3 bytes), 19, 20, 21 that it is refused with.
-#[tactic(auto, using(block::proofs::Laws::unmarked, crate::proofs::Laws::begun), unfolding(block::specs::Layout::layout_of, block::specs::Layout::marker))]
-fn seen_in(b: &[u8]) -> Seen
-    ensures { layout_by result ≡ layout_of b.now }
+// The kind that the third byte of a marker tells.
+fn kind_by(third: u8) -> Result<Kind, Refusal>
+    ensures { result ≡ kind_by third }
 {
-    if b.len() < 3 {
-        return Seen(Sort::WrongLength, 0, 0);
-    }
-    if b[0] != 0x14 || b[1] != 0x6F {
-        return Seen(Sort::NoMarker, 0, 0);
-    }
-    let third = b[2];
     match third {
-        block::NM_MARKER => seen_as(b, Kind::Nm),
-        block::BM1_MARKER => seen_as(b, Kind::Bm1),
-        _ => Seen(Sort::NoMarker, 0, 0),
+        block::NM_MARKER => Ok(Kind::Nm),
+        block::BM1_MARKER => Ok(Kind::Bm1),
+        _ => Err(Refusal::NoMarker),
     }
 }
 
-// What a block is, with its two content descriptors; or the refusal.
-pub fn layout_of(b: &[u8]) -> Layout
+// What a block is, with its two content descriptors; or the first of 20 (under 3 bytes), 19, 20, 21 that it is refused with.
+#[tactic(auto, using(crate::proofs::Laws::begun, crate::proofs::Laws::unknown, block::proofs::Laws::unmarked), unfolding(block::specs::Layout::layout_of, block::specs::Layout::marker))]
+pub fn layout_of(b: &[u8]) -> Result<Layout, Refusal>
     ensures { result ≡ layout_of b.now }
 {
-    let s = seen_in(b);
-    let sort = s.0;
-    match sort {
-        Sort::Nm => Layout::Is(Kind::Nm, s.1, s.2),
-        Sort::Bm1 => Layout::Is(Kind::Bm1, s.1, s.2),
-        Sort::NoMarker => Layout::Bad(Refusal::NoMarker),
-        Sort::WrongLength => Layout::Bad(Refusal::WrongLength),
-        Sort::InnerMarker => Layout::Bad(Refusal::InnerMarker),
+    match b {
+        [0x14, 0x6F, third, ..] => layout_as(b, kind_by(*third)?),
+        [_, _, _, ..] => Err(Refusal::NoMarker),
+        _ => Err(Refusal::WrongLength),
     }
 }

@@ -5,7 +5,7 @@ use mathlib.Core.List.{List, [], ◌∷◌, ◌++◌}
 use Prim.Native.Nat.{ℕ}
 use Rattle.supply.specs.Rules.{relay_of, targeted, limited, switched}
 use Rattle.judge.specs.Commands.{carried, single_of}
-use Rattle.rig.specs.Words.{take_of, fresh_of, settled_of, refused_of, kind_of}
+use Rattle.rig.specs.Words.{take_of, take_with, fresh_of, settled_of, refused_of, kind_of}
 use Rattle.base.specs.Ascii.{ascii}
 use Rattle.text.specs.Digits.{digit}
 use Rattle.numerals.specs.Decimal.{decimal}
@@ -23,5 +23,5 @@ printed =
     ++ ascii "invalid 1 last 28 code 06\n"
 
 pub example : listing_of (0x08 ∷ 0x02 ∷ 0x2D ∷ 0x01 ∷ 0x29 ∷ 0x0A ∷ 0x28 ∷ 0x0B ∷ 0x28 ∷ 0x05 ∷ []) ≡ printed
-unfolding relay_of targeted limited switched carried single_of take_of fresh_of settled_of refused_of kind_of digit decimal
+unfolding relay_of targeted limited switched carried single_of take_of take_with fresh_of settled_of refused_of kind_of digit decimal
 example = refl

@@ -1,5 +1,6 @@
 -- The lister's law: in whatever pieces a stream comes, the first line, the texts of the pieces and the end are the listing of the stream.
 -- Assumes nothing.
+use Rattle.std.specs.Prelude.{None}
 use mathlib.Core.Path.{◌≡◌, refl, sym, ap, ◌∙◌}
 use mathlib.Core.List.{List, [], ◌∷◌, ◌++◌, append_assoc}
 use Prim.Native.Nat.{ℕ}
@@ -8,7 +9,6 @@ use lib.Seq.{take-append_seam}
 use Rattle.rig.specs.declared.Rig.{Rig}
 use Rattle.rig.specs.Words.{take_of}
 use Rattle.rig.specs.Start.{start_rig}
-use Rattle.listing.specs.declared.Lone.TheVariants.{Nothing}
 use Rattle.listing.specs.declared.Lister.{Lister}
 use Rattle.lines.specs.Text.{lines_of}
 use Rattle.listing.specs.Listing.{word_of, first_line, listing_from, listing_of, lister, start_lister, fed_byte, said_byte, fed, said, end_of}
@@ -17,7 +17,7 @@ use Rattle.listing.specs.Front.{at_front}
 use Rattle.listing.proofs.Pieces.{fed_append, said_append}
 
 -- a stream that begins with no byte waiting
-even : (rig : Rig) (bytes : List ℕ) → said (lister rig Nothing) bytes ++ end_of (fed (lister rig Nothing) bytes) ≡ listing_from rig bytes
+even : (rig : Rig) (bytes : List ℕ) → said (lister rig None) bytes ++ end_of (fed (lister rig None) bytes) ≡ listing_from rig bytes
 unfolding fed_byte said_byte
 even rig [] = refl
 even rig (b ∷ []) = refl

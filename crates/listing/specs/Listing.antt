@@ -1,11 +1,10 @@
 -- The whole listing of a stream of bytes (01, "Bench cases"), and what the lister does with each piece of it.
 -- Assumes nothing.
-use Rattle.std.specs.Prelude.{ℕ, ◌+◌, ◌*◌, ◌≡◌, List, [], ◌∷◌, ◌++◌, length}
+use Rattle.std.specs.Prelude.{ℕ, ◌+◌, ◌*◌, ◌≡◌, List, [], ◌∷◌, ◌++◌, length, Some, None}
 use Rattle.rig.specs.declared.Rig.{Rig}
 use Rattle.rig.specs.Words.{take_of}
 use Rattle.rig.specs.Start.{start_rig}
-use Rattle.listing.specs.declared.Lone.{Lone}
-use Rattle.listing.specs.declared.Lone.TheVariants.{Nothing, High}
+use Rattle.listing.specs.Shapes.{Lone}
 use Rattle.listing.specs.declared.Lister.{Lister}
 use Rattle.listing.specs.declared.Listed.{Listed}
 use Rattle.base.specs.Ascii.{ascii}
@@ -41,16 +40,16 @@ abbrev pub lister : Rig → Lone → Lister
 lister rig lone = record { rig = rig; lone = lone }
 
 abbrev pub start_lister : Lister
-start_lister = lister start_rig Nothing
+start_lister = lister start_rig None
 
 -- One byte: it waits for its low byte, or completes a word, whose lines it brings.
 abbrev pub fed_lone : Rig → Lone → ℕ → Lister
-fed_lone rig Nothing b = lister rig (High b)
-fed_lone rig (High h) b = lister (take_of rig (word_of h b)).rig Nothing
+fed_lone rig None b = lister rig (Some b)
+fed_lone rig (Some h) b = lister (take_of rig (word_of h b)).rig None
 
 abbrev pub said_lone : Rig → Lone → ℕ → List ℕ
-said_lone rig Nothing b = []
-said_lone rig (High h) b = lines_of (word_of h b) (take_of rig (word_of h b)).reply
+said_lone rig None b = []
+said_lone rig (Some h) b = lines_of (word_of h b) (take_of rig (word_of h b)).reply
 
 unfoldable pub fed_byte : Lister → ℕ → Lister
 fed_byte l b = fed_lone l.rig l.lone b
@@ -69,8 +68,8 @@ said l (b ∷ bytes) = said_byte l b ++ said (fed_byte l b) bytes
 
 -- The end of the stream.
 abbrev pub odd_of : Lone → List ℕ
-odd_of Nothing = []
-odd_of (High h) = odd_line
+odd_of None = []
+odd_of (Some h) = odd_line
 
 abbrev pub end_of : Lister → List ℕ
 end_of l = odd_of l.lone ++ last_line l.rig.faults

@@ -3,27 +3,23 @@
 #![tactic(auto)]
 
 ghost use Rattle.std.specs.Prelude.{◌≡◌, length};
-ghost use Rattle.listing.specs.Listing.{first_line, start_lister, end_of, listed};
+ghost use Rattle.text.specs.Page.{Gets, RoomFor};
+ghost use Rattle.listing.specs.Listing.{first_line, start_lister, odd_of, end_of, listed};
 ghost use Rattle.listing.specs.Front.{at_front, Within};
 
 use rig::Rig;
+use text::Page;
 
 // The most bytes of a piece of the stream, and of the page that its text goes to: each byte may bring a pair of lines.
 pub const PIECE: usize = 4096;
 
 pub const PAGE: usize = PIECE * lines::PAIR;
 
-// The high byte of a word whose low byte has not come.
-#[derive(Clone, Copy)]
-pub enum Lone {
-    Nothing,
-    High(u8),
-}
-
 #[derive(Clone, Copy)]
 pub struct Lister {
     pub rig: Rig,
-    pub lone: Lone,
+    // The high byte of a word whose low byte has not come.
+    pub lone: Option<u8>,
 }
 
 // The lister after a piece, and how many bytes of the page its text takes.
@@ -39,14 +35,25 @@ pub fn open(page: &mut [u8; PAGE]) -> Listed
         × (page.new ≡ at_front first_line page.old)
         × Within result.len page.new }
 {
-    let rig = rig::start();
-    let len = text::put(b"word answer\n", page, 0);
+    let mut front = Page { bytes: page, at: 0 };
+    front.put(b"word answer\n");
     Listed {
         lister: Lister {
-            rig,
-            lone: Lone::Nothing,
+            rig: rig::start(),
+            lone: None,
         },
-        len,
+        len: front.at,
+    }
+}
+
+// A byte that waits for its low byte is told.
+#[tactic(auto, using(text::proofs::Puts::gets_all, text::proofs::Puts::gets_none))]
+fn put_odd(lone: Option<u8>, page: &mut Page)
+    requires { RoomFor 9 page.old }
+    ensures { Gets (odd_of lone) page.old page.new }
+{
+    if lone.is_some() {
+        page.put(b"odd byte\n");
     }
 }
 
@@ -56,14 +63,8 @@ pub fn finish(lister: Lister, page: &mut [u8; PAGE]) -> usize
         × (page.new ≡ at_front (end_of lister) page.old)
         × Within result page.new }
 {
-    let rig = lister.rig;
-    let lone = lister.lone;
-    let faults = rig.faults;
-    match lone {
-        Lone::Nothing => last_line::put_last_line(faults, page, 0),
-        Lone::High(_) => {
-            let at = text::put(b"odd byte\n", page, 0);
-            last_line::put_last_line(faults, page, at)
-        }
-    }
+    let mut front = Page { bytes: page, at: 0 };
+    put_odd(lister.lone, &mut front);
+    last_line::put_last_line(lister.rig.faults, &mut front);
+    front.at
 }

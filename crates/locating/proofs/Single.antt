@@ -7,7 +7,7 @@ use contract.Lifetimes.{Lfts}
 use denote.Ref.{Bor}
 use Rattle.base.proofs.Single.{same}
 use Rattle.block.specs.declared.Part.{Part}
-use Rattle.block.specs.declared.Located.{Located}
+use Rattle.block.specs.Shapes.{Located}
 use Rattle.locating.proofs.locate.Reads as locate
 use Rattle.locating.proofs.slice_of.Reads as slice_of
 

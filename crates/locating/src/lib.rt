@@ -5,35 +5,22 @@
 ghost use Rattle.std.specs.Prelude.{◌≡◌};
 ghost use Rattle.block.specs.Parts.{locate_of, bytes_of};
 
-use block::{Kind, Layout, Located, Part};
+use block::{Part, Place, Refusal};
 
-// Where a part stands: its first byte and its length; or the refusal. The kind is named in each arm, so that the compiler has one choice by the
-// part for each.
-pub fn locate(b: &[u8], part: Part) -> Located
+// Where a part stands: its first byte and its length; or the refusal.
+#[tactic(auto, using(block::proofs::Laws::unlocated, block::proofs::Laws::located_by))]
+pub fn locate(b: &[u8], part: Part) -> Result<Place, Refusal>
     ensures { result ≡ locate_of b.now part }
 {
-    let layout = layout::layout_of(b);
-    match layout {
-        Layout::Bad(r) => Located::Refused(r),
-        Layout::Is(kind, d1, d2) => match kind {
-            Kind::Nm => placing::place_of(Kind::Nm, d1, d2, part),
-            Kind::Bm1 => placing::place_of(Kind::Bm1, d1, d2, part),
-        },
-    }
+    placing::place_of(layout::layout_of(b)?, part)
 }
 
 // The bytes of the caller's slice that stand at a place; none where it is a refusal, or the slice ends before it. Nothing is judged.
-pub fn slice_of(b: &[u8], place: Located) -> &[u8]
+pub fn slice_of(b: &[u8], place: Result<Place, Refusal>) -> &[u8]
     ensures { result.now ≡ bytes_of b.now place }
 {
     match place {
-        Located::At(at, n) => {
-            if base::has_room(at, n, b.len()) {
-                let end = at + n;
-                return &b[at..end];
-            }
-            &b[..0]
-        }
-        Located::Refused(_) => &b[..0],
+        Ok(Place { at, len }) => b.get(at..).and_then(|rest| rest.get(..len)).unwrap_or(&[]),
+        Err(_) => &[],
     }
 }

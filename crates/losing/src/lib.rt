@@ -7,28 +7,20 @@ ghost use Rattle.sending.specs.Sending.{filled_of};
 ghost use Rattle.slots.specs.Slots.{lost_bench};
 
 use bench::Bench;
-use desk::Answer;
-use frame::Wrote;
-use slots::{Outcome, Passed};
+use desk::{Answer, Received};
+use slots::Passed;
 
 // The next frame is built at a place of the caller's buffer, and its slot is marked missed. Where there is no room (18) no slot passes.
 pub fn lost(bench: Bench, buf: &mut [u8], at: usize) -> Passed
     ensures { (result ≡ lost_bench bench buf.old at) × (buf.new ≡ filled_of bench.rig buf.old at) }
 {
-    let sent = slots::build(bench, buf, at);
-    let wrote = sent.wrote;
-    let after = sent.bench;
-    match wrote {
-        Wrote::Done => {
-            let gone = slots::miss(after);
-            Passed {
-                bench: gone,
-                outcome: Outcome::Slot(Answer::Missed),
-            }
-        }
-        Wrote::Refused(why) => Passed {
-            bench: after,
-            outcome: Outcome::NoFrame(why),
+    slots::pass(
+        bench,
+        buf,
+        at,
+        |desk, _| Received {
+            answer: Answer::Missed,
+            desk: desk::missed(desk),
         },
-    }
+    )
 }

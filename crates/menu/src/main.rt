@@ -4,17 +4,6 @@
 
 use cutting::{Held, ROOM, Said};
 use std::io;
-use std::io::Read;
-
-// The most bytes that are read at once.
-const PIECE: usize = 4096;
-
-// How a turn of the reading loop ends: more may come, or the input has ended.
-#[derive(Clone, Copy)]
-enum Next {
-    More(Held),
-    End,
-}
 
 // Writes the answer to a line.
 fn tell(rt: &impl Print, said: Said, line: &[u8; ROOM]) -> io::Result<()> {
@@ -23,21 +12,7 @@ fn tell(rt: &impl Print, said: Said, line: &[u8; ROOM]) -> io::Result<()> {
     rt.write_all(&page[..n])
 }
 
-// Says on standard error what failed, and hands the error back.
-fn failed(rt: &impl Eprint, why: &str, error: io::Error) -> io::Error {
-    let _ = rt.eprint(why);
-    error
-}
-
-// Writes the answer to a line, and says so where that fails.
-fn answer(rt: &(impl Print + Eprint), said: Said, line: &[u8; ROOM]) -> io::Result<()> {
-    match tell(rt, said, line) {
-        Ok(()) => Ok(()),
-        Err(error) => Err(failed(rt, "menu: cannot write\n", error)),
-    }
-}
-
-// Answers the lines that a piece completes.
+// Answers the lines that a piece completes. No iterator: each call says itself where the next goes on.
 fn feed(
     rt: &(impl Print + Eprint),
     held: Held,
@@ -48,39 +23,22 @@ fn feed(
     let mut at: usize = 0;
     while at < piece.len() {
         let step = cutting::next(now, piece, at, line);
-        let said = step.said;
         now = step.held;
         at = step.at;
-        answer(rt, said, line)?;
+        streams::or_say(rt, "menu: cannot write\n", tell(rt, step.said, line))?;
     }
     Ok(now)
 }
 
-// Reads once and answers the lines of what came.
-fn turn(
-    rt: &(impl Print + Eprint),
-    input: &mut impl Read,
-    held: Held,
-    line: &mut [u8; ROOM],
-) -> io::Result<Next> {
-    let mut piece = [0u8; PIECE];
-    match input.read(&mut piece) {
-        Ok(0) => Ok(Next::End),
-        Ok(n) => Ok(Next::More(feed(rt, held, &piece[..n], line)?)),
-        Err(error) => Err(failed(rt, "menu: cannot read\n", error)),
-    }
-}
-
-// Reads to the end of the input and answers its last line. A proved loop has to end, and nothing says that the input does: so it has 2^64 - 1 turns.
+// The last line may have no newline: it is answered at the end of the input.
 fn main(rt: HostRuntime) -> io::Result<()> {
-    let mut input = rt.stdin();
     let mut line = [0u8; ROOM];
-    let mut held = cutting::begin();
-    for _ in 0..u64::MAX {
-        match turn(&rt, &mut input, held, &mut line)? {
-            Next::More(after) => held = after,
-            Next::End => return tell(&rt, cutting::finish(held, &line), &line),
-        }
-    }
-    Ok(())
+    let held = streams::fold(
+        &rt,
+        "menu: cannot read\n",
+        &mut rt.stdin(),
+        cutting::begin(),
+        |held, piece, n| feed(&rt, held, &piece[..n], &mut line),
+    )?;
+    tell(&rt, cutting::finish(held, &line), &line)
 }

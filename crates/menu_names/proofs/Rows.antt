@@ -1,7 +1,8 @@
 -- The rows of the menu: the search step by step, and each row is found by its own words.
 -- Assumes nothing.
 use mathlib.Core.Path.{◌≡◌, refl, sym, ap, ◌∙◌, subst}
-use mathlib.Core.Bool.{true, false}
+use Rattle.std.specs.Prelude.{Option, Some, None, MatchOption}
+use mathlib.Core.Bool.{Bool, true, false}
 use mathlib.Core.List.{List, [], ◌∷◌, ◌++◌}
 use Prim.Native.Nat.{ℕ, zero, suc, ◌+◌, ◌-◌, ◌≤◌, ◌<◌}
 use native.Mathlib.Nat.{not-suc-le-zero}
@@ -10,31 +11,41 @@ use native.Mathlib.Omega.{arith}
 use lib.Dec.{T, eqb, ltb}
 use lib.ListN.{length, get_or, replicate, length-append, length-take}
 use lib.Seq.{get_or-append-add}
-use borrow.Author.Tests.{ltb-true, ltb-false, ne_eqb}
+use borrow.Author.Tests.{ltb-true, ltb-false, lt-ltb, ne_eqb}
 use Rattle.base.proofs.Cases.{split}
 use Rattle.names.specs.Names.{name_in}
 use Rattle.names.proofs.Texts.{text, named}
 use Rattle.splitting.specs.Words.{space, words_of, spoken}
 use Rattle.splitting.proofs.Spoken.{padded_back, can_spell, spellable}
-use Rattle.menu_names.specs.Names.{rows, names, name_words, name_of, called, seek, find_of, Found}
+use Rattle.menu_names.specs.Names.{rows, names, name_words, name_of, called, seek, find_of, row_found, Found}
 
--- one step of the search: it is this row; it is a later one; there is none
-module _ (row : ℕ) (first second : List ℕ) where
-  pub here : row < rows → called (name_words row) first second ≡ true → seek (rows - row) row first second ≡ row
-  unfolding seek
-  here h e = let n : rows - row ≡ suc (rows - (row + 1)) = omega arith in rw n (rw e)
+-- the search from a row on: no row is named, or i is the first
+module _ (first second : List ℕ) where
+  abbrev named_at : ℕ → Bool
+  named_at row = called (name_words row) first second
 
-  pub on : row < rows → called (name_words row) first second ≡ false
-      → seek (rows - row) row first second ≡ seek (rows - (row + 1)) (row + 1) first second
+  passed : (left row : ℕ) → row + left ≡ rows → ((k : ℕ) → row ≤ k → k < rows → named_at k ≡ false) → seek left row first second ≡ rows
   unfolding seek
-  on h e =
-      let n : rows - row ≡ suc (rows - (row + 1)) = omega arith in
-      let m : suc row ≡ row + 1 = omega arith in
-      rw n (rw (e, m))
+  passed zero row e f = omega arith
+  passed (suc left) row e f = rw (f row (omega arith) (omega arith)) (passed left (suc row) (omega arith) (λ k h l. f k (omega arith) l))
 
-  pub end : rows ≤ row → seek (rows - row) row first second ≡ row
+  reached : (left row i : ℕ) → row + left ≡ rows → row ≤ i → i < rows → named_at i ≡ true → ((k : ℕ) → row ≤ k → k < i → named_at k ≡ false)
+      → seek left row first second ≡ i
   unfolding seek
-  end h = let n : rows - row ≡ 0 = omega arith in rw n
+  reached zero row i e h l t f = absurd (omega arith)
+  reached (suc left) row i e h l t f =
+      elim (ℕ_discrete row i) [
+        | yes q ↦ rw (subst (λ (k : ℕ). named_at k ≡ true) (sym q) t) q
+        | no ne ↦ rw (f row (omega arith) (omega arith)) (reached left (suc row) i (omega arith) (omega arith) l t (λ k g m. f k (omega arith) m))
+      ]
+
+  pub first_named : (r : Option ℕ)
+      → MatchOption r ((k : ℕ) → 0 ≤ k → k < rows → named_at k ≡ false)
+      (λ i. (0 ≤ i) × (i < rows) × (named_at i ≡ true) × ((k : ℕ) → 0 ≤ k → k < i → named_at k ≡ false))
+      → r ≡ row_found first second
+  unfolding find_of
+  first_named None h = rw (passed rows 0 refl h)
+  first_named (Some i) h = rw (reached rows 0 i refl h.0 h.1 h.2 h.3) (rw (lt-ltb i rows h.1))
 
 -- something of each number below n, told one by one
 abbrev pub Each : (ℕ → Type 0) → ℕ → Type 0
@@ -118,11 +129,6 @@ not_called row h b t second l =
     (((((((((((((((((((tt, rw (n 0x72 (omega arith))), rw (n 0x72 (omega arith))), rw (n 0x72 (omega arith))), rw (n 0x72 (omega arith))), rw (n 0x68 (omega arith))), rw (n 0x73 (omega arith))), rw (n 0x73 (omega arith))), rw (n 0x73 (omega arith))), rw (n 0x73 (omega arith))), rw (n 0x73 (omega arith))), rw (n 0x73 (omega arith))), rw (n 0x64 (omega arith))), rw (n 0x64 (omega arith))), rw (n 0x64 (omega arith))), rw (n 0x6D (omega arith))), rw (n 0x69 (omega arith))), rw (n 0x6D (omega arith))), rw (n 0x64 (omega arith))), rw (n 0x65 (omega arith)))
     row h
 
-none_from : (left row : ℕ) → row + left ≡ rows → (b : ℕ) (t second : List ℕ) → b < 0x64 → seek left row (b ∷ t) second ≡ rows
-unfolding seek
-none_from zero row e b t second l = omega arith
-none_from (suc left) row e b t second l = rw (not_called row (omega arith) b t second l) (none_from left (suc row) (omega arith) b t second l)
-
 pub none_found : (b : ℕ) (t second : List ℕ) → b < 0x64 → find_of (b ∷ t) second ≡ rows
 unfolding find_of
-none_found b t second l = none_from rows 0 refl b t second l
+none_found b t second l = passed (b ∷ t) second rows 0 refl (λ k h m. not_called k m b t second l)

@@ -1,5 +1,6 @@
 -- Single outcome: two results that meet a function's own contract at the same arguments are equal.
 -- Assumes nothing.
+use Rattle.std.specs.Prelude.{Option}
 use mathlib.Core.Path.{◌≡◌}
 use mathlib.Core.List.{List}
 use Prim.Native.Nat.{ℕ}
@@ -16,7 +17,7 @@ pub name_of_one : (row : ℕ) (x y : List ℕ) → name_of.Post tt (row, tt) x (
 name_of_one row x y m n = same m n
 
 -- words that are only read are as they were, so the exit has nothing to fix
-pub find_one : (κs : Lfts 2) (a : Dens κs ps) (e f : AtExit (ended_of 2 ps r) κs) (x y : ℕ) → find.Post κs a x e → find.Post κs a y f → x ≡ y
+pub find_one : (κs : Lfts 2) (a : Dens κs ps) (e f : AtExit (ended_of 2 ps r) κs) (x y : Option ℕ) → find.Post κs a x e → find.Post κs a y f → x ≡ y
 find_one κs a e f x y m n = same m n
 
 pub words_in_one : (row x y : ℕ) → words_in.Post tt (row, tt) x (row, tt) → words_in.Post tt (row, tt) y (row, tt) → x ≡ y

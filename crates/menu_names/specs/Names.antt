@@ -1,6 +1,6 @@
 -- The names of the menu's rows, and the row that the first words of a line name.
 -- Assumes nothing.
-use Rattle.std.specs.Prelude.{ℕ, zero, suc, ◌<◌, ◌≡◌, Bool, false, ◌&&◌, List, [], ◌∷◌, ◌++◌, get_or, take, replicate}
+use Rattle.std.specs.Prelude.{ℕ, zero, suc, ◌<◌, ◌≡◌, Bool, false, ◌&&◌, List, [], ◌∷◌, ◌++◌, get_or, take, replicate, ltb, Option, Some, None}
 use Rattle.base.specs.Pick.{pick}
 use Rattle.base.specs.Ascii.{ascii}
 use Rattle.spelling.specs.Same.{same}
@@ -54,6 +54,10 @@ seek (suc left) row first second = pick (called (name_words row) first second) r
 
 unfoldable pub find_of : List ℕ → List ℕ → ℕ
 find_of first second = seek rows 0 first second
+
+-- that row, where there is one
+abbrev pub row_found : List ℕ → List ℕ → Option ℕ
+row_found first second = let row = find_of first second in pick (ltb row rows) (Some row) None
 
 -- Each row is found by the words of its name, whatever word stands behind them: so no name begins with another.
 abbrev pub Found : Type 0

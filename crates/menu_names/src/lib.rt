@@ -3,14 +3,14 @@
 #![tactic(auto)]
 
 ghost use Rattle.std.specs.Prelude.{◌≡◌, ◌≤◌, length};
-ghost use Rattle.splitting.specs.Words.{words_of};
-ghost use Rattle.menu_names.specs.Names.{name_words, name_of, called, find_of};
+ghost use Rattle.menu_names.specs.Names.{name_words, name_of, called, row_found};
 
 use names::NAME;
 
 pub const ROWS: usize = 19;
 
 // The name of a row, and blanks behind it; blanks alone past the last.
+// One text, by the row: the edits `one_word_for_two` and `limit_and_target_swapped`, and those of crate `names`, are edits of such a text.
 pub fn name_of(row: usize) -> [u8; NAME]
     ensures { result ≡ name_of row }
 {
@@ -31,35 +31,23 @@ pub fn words_in(row: usize) -> usize
     splitting::count(&name)
 }
 
-// Whether two words begin with those of a name.
-fn is_called(name: &[u8], first: &[u8], second: &[u8]) -> bool
-    ensures { result ≡ called (words_of name.now) first.now second.now }
+// Whether two words name a row, the second of which counts where the name has two.
+#[tactic(auto, using(crate::proofs::Rows::words_at))]
+fn is_called(row: usize, first: &[u8], second: &[u8]) -> bool
+    ensures { result ≡ called (name_words row) first.now second.now }
 {
-    let words = splitting::count(name);
-    if words == 0 {
-        return false;
+    let name = name_of(row);
+    match splitting::count(&name) {
+        0 => false,
+        1 => spelling::spells(first, splitting::word(&name, 0)),
+        _ => spelling::spells(first, splitting::word(&name, 0))
+            && spelling::spells(second, splitting::word(&name, 1)),
     }
-    if spelling::spells(first, splitting::word(name, 0)) {
-        if words == 1 {
-            return true;
-        }
-        return spelling::spells(second, splitting::word(name, 1));
-    }
-    false
 }
 
-// The row that two words name, the second of which counts where the name has two; ROWS where there is none.
-#[tactic(auto, using(crate::proofs::Rows::words_in, crate::proofs::Rows::here, crate::proofs::Rows::on, crate::proofs::Rows::end), unfolding(crate::specs::Names::find_of))]
-pub fn find(first: &[u8], second: &[u8]) -> usize
-    ensures { result ≡ find_of first.now second.now }
+// The first row that two words name.
+pub fn find(first: &[u8], second: &[u8]) -> Option<usize>
+    ensures { result ≡ row_found first.now second.now }
 {
-    let mut row: usize = 0;
-    while row < ROWS {
-        let name = name_of(row);
-        if is_called(&name, first, second) {
-            return row;
-        }
-        row += 1;
-    }
-    row
+    (0..ROWS).find(|row| is_called(*row, first, second))
 }

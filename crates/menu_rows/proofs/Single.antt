@@ -12,9 +12,8 @@ use Rattle.menu_rows.proofs.entry_of.Reads as entry_of
 pub settings_one : (row x y : ℕ) → settings.Post tt (row, tt) x (row, tt) → settings.Post tt (row, tt) y (row, tt) → x ≡ y
 settings_one row x y m n = same m n
 
-pub command_one : (row a b : ℕ) (x y : Command)
-    → command.Post tt (row, (a, (b, tt))) x (row, (a, (b, tt))) → command.Post tt (row, (a, (b, tt))) y (row, (a, (b, tt))) → x ≡ y
-command_one row a b x y m n = same m n
+pub command_one : (e : Entry) (x y : Command) → command.Post tt (e, tt) x (e, tt) → command.Post tt (e, tt) y (e, tt) → x ≡ y
+command_one e x y m n = same m n
 
 pub entry_of_one : (c : Command) (x y : Entry) → entry_of.Post tt (c, tt) x (c, tt) → entry_of.Post tt (c, tt) y (c, tt) → x ≡ y
 entry_of_one c x y m n = same m n

@@ -10,7 +10,8 @@ use judge::Which;
 use wording::Command;
 
 // A command as it stands in the menu: its row, and its settings, 0 where it has none.
-#[derive(Clone, Copy)]
+// The row is its number, and no enum: `Found`, `Back` and `name_of` speak of it as the place in the list of names.
+#[derive(Clone, Copy, PartialEq, Eq)]
 pub struct Entry {
     pub row: usize,
     pub first: u8,
@@ -21,56 +22,51 @@ pub struct Entry {
 pub fn settings(row: usize) -> usize
     ensures { result ≡ wanted row }
 {
-    if row < 4 {
-        return 0;
+    match row {
+        0..=3 => 0,
+        4..=14 => 1,
+        _ => 2,
     }
-    if row < 15 {
-        return 1;
-    }
-    2
 }
 
 // The command of a row, with its settings.
 #[tactic(auto, unfolding(crate::specs::Rows::made))]
-pub fn command(row: usize, a: u8, b: u8) -> Command
-    ensures { result ≡ made row a b }
+pub fn command(e: Entry) -> Command
+    ensures { result ≡ made e.row e.first e.second }
 {
+    let Entry { row, first, second } = e;
     match row {
         0 => Command::Relay(1, 0),
         1 => Command::Relay(0, 1),
         2 => Command::Relay(1, 1),
         3 => Command::Relay(0, 0),
-        4 => Command::HeadMask(a),
-        5 => Command::Target(Which::Stop, a),
-        6 => Command::Limit(Which::Stop, a),
-        7 => Command::Stepping(Which::Stop, a),
-        8 => Command::Target(Which::Start, a),
-        9 => Command::Limit(Which::Start, a),
-        10 => Command::Stepping(Which::Start, a),
-        11 => Command::Target(Which::Deflection, a),
-        12 => Command::Limit(Which::Deflection, a),
-        13 => Command::Stepping(Which::Deflection, a),
-        14 => Command::Mode(a),
-        15 => Command::Iel(a, b),
-        16 => Command::Multiplexers(a, b),
-        17 => Command::DirectionWindow(a, b),
-        _ => Command::EnergyWindow(a, b),
+        4 => Command::HeadMask(first),
+        5 => Command::Target(Which::Stop, first),
+        6 => Command::Limit(Which::Stop, first),
+        7 => Command::Stepping(Which::Stop, first),
+        8 => Command::Target(Which::Start, first),
+        9 => Command::Limit(Which::Start, first),
+        10 => Command::Stepping(Which::Start, first),
+        11 => Command::Target(Which::Deflection, first),
+        12 => Command::Limit(Which::Deflection, first),
+        13 => Command::Stepping(Which::Deflection, first),
+        14 => Command::Mode(first),
+        15 => Command::Iel(first, second),
+        16 => Command::Multiplexers(first, second),
+        17 => Command::DirectionWindow(first, second),
+        _ => Command::EnergyWindow(first, second),
     }
 }
 
 fn relay_row(on: u8, off: u8) -> usize
     ensures { result ≡ relay_row on off }
 {
-    if on == 1 {
-        if off == 1 {
-            return 2;
-        }
-        return 0;
+    match (on, off) {
+        (1, 1) => 2,
+        (1, _) => 0,
+        (_, 1) => 1,
+        _ => 3,
     }
-    if off == 1 {
-        return 1;
-    }
-    3
 }
 
 // The row of a supply's target; its limit and its stepping stand in the next two.

@@ -2,39 +2,29 @@
 // Keeps 01 "Command words": the number of each refusal, and that one word can give two.
 #![tactic(auto)]
 
-ghost use Rattle.std.specs.Prelude.{◌≡◌, [], ◌∷◌, ◌≤◌};
+ghost use Rattle.std.specs.Prelude.{◌≡◌, Some, slice_get};
+ghost use Rattle.rig.specs.Words.{drop_number};
 ghost use Rattle.rig.specs.Replies.{answer_refusals, refusals_of, numbers_in};
 
 use rig::{Answer, DROPPED, Numbers, Reply};
 
-fn one(number: u8) -> Numbers
-    ensures { result ≡ numbers_in (number ∷ []) }
-{
-    Numbers {
-        count: 1,
-        first: number,
-        second: 0,
-    }
-}
-
-fn none() -> Numbers
-    ensures { result ≡ numbers_in [] }
-{
-    Numbers {
-        count: 0,
-        first: 0,
-        second: 0,
-    }
-}
-
 // Of the answer alone: one at most.
-fn answer_numbers(answer: Answer) -> Numbers
-    ensures { (result ≡ numbers_in (answer_refusals answer)) × (result.count ≤ 1) }
+fn answer_number(answer: Answer) -> Option<u8>
+    ensures { result ≡ slice_get (answer_refusals answer) 0 }
 {
     match answer {
-        Answer::Accepted => none(),
-        Answer::Waiting => none(),
-        Answer::Refused(why) => one(judge::number(why)),
+        Answer::Accepted | Answer::Waiting => None,
+        Answer::Refused(why) => Some(judge::number(why)),
+    }
+}
+
+// The dropped block's 03h, and what the word judged afresh got.
+fn dropped(second: Option<u8>) -> Numbers
+    ensures { (result.first ≡ Some drop_number) × (result.second ≡ second) }
+{
+    Numbers {
+        first: Some(DROPPED),
+        second,
     }
 }
 
@@ -43,15 +33,11 @@ pub fn numbers_of(reply: Reply) -> Numbers
     ensures { result ≡ numbers_in (refusals_of reply) }
 {
     match reply {
-        Reply::Plain(a) => answer_numbers(a),
-        Reply::Swallowed => one(DROPPED),
-        Reply::Dropped(a) => {
-            let n = answer_numbers(a);
-            Numbers {
-                count: n.count + 1,
-                first: DROPPED,
-                second: n.first,
-            }
-        }
+        Reply::Plain(a) => Numbers {
+            first: answer_number(a),
+            second: None,
+        },
+        Reply::Swallowed => dropped(None),
+        Reply::Dropped(a) => dropped(answer_number(a)),
     }
 }

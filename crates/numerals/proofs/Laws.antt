@@ -1,5 +1,6 @@
 -- The laws of numbers in text (specs/Laws.antt).
 -- Assumes nothing.
+use Rattle.std.specs.Prelude.{Some, Ok}
 use mathlib.Core.Path.{◌≡◌, refl, ◌∙◌}
 use mathlib.Core.List.{List, [], ◌∷◌, ◌++◌, map, append_assoc}
 use Prim.Native.Nat.{ℕ, zero, suc, ◌+◌, ◌*◌, ◌/◌, ◌%◌, ◌^◌, ◌≤◌, ◌<◌}
@@ -14,8 +15,6 @@ use Rattle.numerals.specs.Letters.{digit_of, small}
 use Rattle.numerals.specs.Decimal.{front, decimal, reading, number_in, number_of, bound}
 use Rattle.numerals.specs.Hex.{word_of}
 use Rattle.numerals.specs.Laws.{NumeralLaws}
-use Rattle.numerals.specs.declared.Number.TheVariants.{Is}
-use Rattle.numerals.specs.declared.Word.TheVariants.{Value}
 use Rattle.numerals.proofs.Letters.{letter_digit, small_digit}
 use Rattle.numerals.proofs.Writing.{front_more, front_none}
 use Rattle.numerals.proofs.Reading.{some}
@@ -24,7 +23,7 @@ use Rattle.numerals.proofs.Reading.{some}
 spelled : (base b d v : ℕ) (text : List ℕ) → digit_of b ≡ d → d < base → reading base v (b ∷ text) ≡ reading base (v * base + d) text
 spelled base b d v text e h = rw e (rw (lt-ltb d base h))
 
-done : (base v : ℕ) → v < bound → reading base v [] ≡ Is v
+done : (base v : ℕ) → v < bound → reading base v [] ≡ Ok v
 done base v h = rw (lt-ltb v bound h)
 
 -- the digits in front of the last, and what follows
@@ -48,7 +47,7 @@ unfolding decimal
 some_digit n = simp length-append (omega arith)
 
 -- A number of 32 bits, written in decimal, is read as itself.
-pub decimal_back : (n : ℕ) → n < bound → number_of (decimal n) ≡ Is n
+pub decimal_back : (n : ℕ) → n < bound → number_of (decimal n) ≡ Ok n
 unfolding decimal
 decimal_back n h =
     let whole : n / 10 * 10 + n % 10 ≡ n = omega arith in
@@ -65,10 +64,10 @@ zero_front b text = refl
 -- four letters, whatever they look like
 module _ (a b : ℕ) where
   four : (c d n : ℕ) → n < 65536 → digit_of a ≡ n / 256 / 16 → digit_of b ≡ n / 256 % 16 → digit_of c ≡ n % 256 / 16 → digit_of d ≡ n % 256 % 16
-      → word_of (a ∷ b ∷ c ∷ d ∷ []) ≡ Value n
+      → word_of (a ∷ b ∷ c ∷ d ∷ []) ≡ Some n
   four c d n h e f g k =
       let whole : (((0 * 16 + n / 256 / 16) * 16 + n / 256 % 16) * 16 + n % 256 / 16) * 16 + n % 256 % 16 ≡ n = omega arith in
-      let e : number_in 16 (a ∷ b ∷ c ∷ d ∷ []) ≡ Is n =
+      let e : number_in 16 (a ∷ b ∷ c ∷ d ∷ []) ≡ Ok n =
       (spelled 16 a (n / 256 / 16) 0 (b ∷ c ∷ d ∷ []) e (omega arith)
       ∙ spelled 16 b (n / 256 % 16) (0 * 16 + n / 256 / 16) (c ∷ d ∷ []) f (omega arith)
       ∙ spelled 16 c (n % 256 / 16) ((0 * 16 + n / 256 / 16) * 16 + n / 256 % 16) (d ∷ []) g (omega arith)
@@ -76,13 +75,13 @@ module _ (a b : ℕ) where
       ∙ rw whole (done 16 n (omega arith))) in
       rw e
 
-pub word_back : (w : ℕ) → w < 65536 → word_of (hex_word w) ≡ Value w
+pub word_back : (w : ℕ) → w < 65536 → word_of (hex_word w) ≡ Some w
 word_back w h =
     four _ _ _ _ w h
     (letter_digit (w / 256 / 16) (omega arith)) (letter_digit (w / 256 % 16) (omega arith))
     (letter_digit (w % 256 / 16) (omega arith)) (letter_digit (w % 256 % 16) (omega arith))
 
-pub small_word_back : (w : ℕ) → w < 65536 → word_of (map small (hex_word w)) ≡ Value w
+pub small_word_back : (w : ℕ) → w < 65536 → word_of (map small (hex_word w)) ≡ Some w
 small_word_back w h =
     four _ _ _ _ w h
     (small_digit (w / 256 / 16) (omega arith)) (small_digit (w / 256 % 16) (omega arith))

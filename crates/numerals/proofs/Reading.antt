@@ -1,6 +1,7 @@
 -- Reading: a digit on, no digit, the end; a number that is too large stays so; and how large a number of few hex digits gets.
 -- Assumes nothing.
-use mathlib.Core.Path.{◌≡◌, refl, sym, ap, ◌∙◌}
+use Rattle.std.specs.Prelude.{Ok, Err}
+use mathlib.Core.Path.{◌≡◌, refl, sym, ap}
 use mathlib.Core.List.{List, [], ◌∷◌}
 use Prim.Native.Nat.{ℕ, ◌+◌, ◌*◌, ◌^◌, ◌≤◌, ◌<◌, min}
 use native.Mathlib.Nat.{le-mul_of_pos_right, mul-le-mul_right, mul_assoc, pow-zero, pow-succ', not-suc-le-zero}
@@ -10,13 +11,12 @@ use native.Mathlib.Omega.{arith}
 use borrow.Author.Tests.{lt-ltb, le-ltb, ltb-true}
 use lib.ListN.{length, drop, get_or}
 use lib.Dec.{ltb}
-use lib.Seq.{drop-cons, drop-length}
-use Rattle.base.specs.Pick.{pick}
+use lib.Seq.{drop-cons}
 use Rattle.base.proofs.Cases.{split}
 use Rattle.numerals.specs.Letters.{digit_of}
 use Rattle.numerals.specs.Decimal.{reading, number_in, bound}
-use Rattle.numerals.specs.declared.Number.{Number}
-use Rattle.numerals.specs.declared.Number.TheVariants.{Is, NotANumber, TooLarge}
+use Rattle.numerals.specs.Shapes.{Number}
+use Rattle.numerals.specs.declared.BadNumber.TheVariants.{NotANumber, TooLarge}
 
 module _ (base : ℕ) (h : 1 ≤ base) where
   large : (text : List ℕ) (v : ℕ) → bound ≤ v → reading base v text ≡ reading base bound text
@@ -43,39 +43,24 @@ module _ (base : ℕ) (text : List ℕ) (i v : ℕ) (h : i < length text) where
   pub one : digit_of (get_or text i 0) < base → reading base v (drop i text) ≡ reading base (v * base + digit_of (get_or text i 0)) (drop (i + 1) text)
   one k = rw (add-one, drop-cons text i 0 h) (rw (lt-ltb (digit_of (get_or text i 0)) base k))
 
-  pub none : base ≤ digit_of (get_or text i 0) → reading base v (drop i text) ≡ NotANumber
+  pub none : base ≤ digit_of (get_or text i 0) → reading base v (drop i text) ≡ (Err NotANumber)
   none k = rw (drop-cons text i 0 h) (rw (le-ltb (digit_of (get_or text i 0)) base k))
-
-pub empty : (base : ℕ) (text : List ℕ) → length text ≡ 0 → number_in base text ≡ NotANumber
-empty base [] h = refl
-empty base (b ∷ text) h = absurd (omega arith)
-
--- all is read
-module _ (base : ℕ) (text : List ℕ) (i v : ℕ) (e : i ≡ length text) (h : 0 < length text) (k : reading base v (drop i text) ≡ reading base 0 text) where
-  ended : pick (ltb v bound) (Is v) TooLarge ≡ number_in base text
-  ended = sym (some base text h ∙ sym k ∙ rw e (rw (drop-length text)))
-
-  pub finished : v < bound → Is v ≡ number_in base text
-  finished m = sym (rw (lt-ltb v bound m)) ∙ ended
-
-  pub too_large : bound ≤ v → TooLarge ≡ number_in base text
-  too_large m = sym (rw (le-ltb v bound m)) ∙ ended
 
 -- what a text spells is one of three
 abbrev is_number : Number → ℕ
-is_number (Is n) = 1
-is_number NotANumber = 0
-is_number TooLarge = 0
+is_number (Ok n) = 1
+is_number (Err NotANumber) = 0
+is_number (Err TooLarge) = 0
 
-no_number : (m : Number) (n : ℕ) → is_number m ≡ 0 → m ≡ Is n → ⊥
+no_number : (m : Number) (n : ℕ) → is_number m ≡ 0 → m ≡ Ok n → ⊥
 no_number m n z e = let k = ap is_number e in omega arith
 
 -- a number of so many hex digits is below that power of sixteen
-bounded : (text : List ℕ) (v n : ℕ) → reading 16 v text ≡ Is n → n < (v + 1) * 16 ^ length text
+bounded : (text : List ℕ) (v n : ℕ) → reading 16 v text ≡ Ok n → n < (v + 1) * 16 ^ length text
 bounded [] v n h =
     split (ltb v bound)
-    (λ e. let k : Is v ≡ Is n = simp e at h in let m : v ≡ n = cc in rw pow-zero (omega arith))
-    (λ e. absurd (no_number TooLarge n refl (simp e at h)))
+    (λ e. let k : Ok v ≡ Ok n = simp e at h in let m : v ≡ n = cc in rw pow-zero (omega arith))
+    (λ e. absurd (no_number (Err TooLarge) n refl (simp e at h)))
 bounded (b ∷ text) v n h =
     split (ltb (digit_of b) 16)
     (λ e.
@@ -84,8 +69,8 @@ bounded (b ∷ text) v n h =
     let m : v * 16 + digit_of b + 1 ≤ (v + 1) * 16 = omega arith in
     let p = mul-le-mul_right (16 ^ length text) m in
     rw pow-succ' (rw (← mul_assoc (v + 1) 16 (16 ^ length text)) (omega arith)))
-    (λ e. absurd (no_number NotANumber n refl (simp e at h)))
+    (λ e. absurd (no_number (Err NotANumber) n refl (simp e at h)))
 
-pub few_digits : (text : List ℕ) (n k : ℕ) → length text ≡ k → number_in 16 text ≡ Is n → n < 16 ^ k
-few_digits [] n k e h = absurd (no_number NotANumber n refl h)
+pub few_digits : (text : List ℕ) (n k : ℕ) → length text ≡ k → number_in 16 text ≡ Ok n → n < 16 ^ k
+few_digits [] n k e h = absurd (no_number (Err NotANumber) n refl h)
 few_digits (b ∷ text) n k e h = rw (← e) (let f = bounded (b ∷ text) 0 n h in omega arith)

@@ -2,57 +2,45 @@
 // Keeps 02 (i) and (iv), run by the compiled code; what is printed is held to the file `stdout`.
 #![tactic(auto)]
 
+mod counts; // counts.rt: how often each outcome came
 mod outcome; // outcome.rt: what one command comes to
 mod trying; // trying.rt: a command's words, sent or read back
 
+use counts::Counts;
 use menu_rows::Entry;
+use outcome::Party;
 use std::io;
 
 // How many commands a row makes: a setting has 256 values.
 fn tries(row: usize) -> u32 {
-    let settings = menu_rows::settings(row);
-    match settings {
+    match menu_rows::settings(row) {
         0 => 1,
         1 => 256,
         _ => 65536,
     }
 }
 
-// The outcomes that came, and how often.
-fn say_counts(rt: &impl Print, counts: &[u64]) -> io::Result<()> {
-    for (k, n) in counts.iter().enumerate() {
-        if *n != 0 {
-            printing::number_after(rt, b", ", *n)?;
-            outcome::say(rt, (k % 256) as u8)?;
+// What one party makes of so many commands of a row.
+fn tell(rt: &impl Print, row: usize, n: u32, party: Party) -> io::Result<()> {
+    let mut counts = Counts::none();
+    for k in 0..n {
+        let [first, second, _, _] = k.to_le_bytes();
+        if let Some(outcome) = outcome::of_entry(Entry { row, first, second }, party) {
+            counts.add(outcome);
         }
     }
-    Ok(())
-}
-
-// What one party makes of so many commands of a row.
-fn tell(rt: &impl Print, row: usize, n: u32, party: u8) -> io::Result<()> {
-    let mut counts = [0u64; 256];
-    for k in 0..n {
-        let e = Entry {
-            row,
-            first: (k % 256) as u8,
-            second: (k / 256 % 256) as u8,
-        };
-        let at = outcome::of_entry(e, party) as usize;
-        counts[at] = counts[at].wrapping_add(1);
-    }
-    say_counts(rt, &counts[0..outcome::NONE as usize])
+    counts.say(rt)
 }
 
 fn say_line(rt: &impl Print, row: usize) -> io::Result<()> {
     let n = tries(row);
     printing::text(rt, &menu_names::name_of(row))?;
-    printing::number_after(rt, b": tried ", u64::from(n))?;
-    tell(rt, row, n, outcome::READER)?;
-    printing::text(rt, b"; by a fresh rig")?;
-    tell(rt, row, n, outcome::FRESH)?;
-    printing::text(rt, b"; by a ready rig")?;
-    tell(rt, row, n, outcome::READY)?;
+    print!(rt; ": tried {n}")?;
+    tell(rt, row, n, Party::Reader)?;
+    print!(rt; "; by a fresh rig")?;
+    tell(rt, row, n, Party::FreshRig)?;
+    print!(rt; "; by a ready rig")?;
+    tell(rt, row, n, Party::ReadyRig)?;
     printing::end(rt)
 }
 

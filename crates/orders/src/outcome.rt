@@ -1,63 +1,44 @@
 // What one command of the menu comes to: refused by the writer, or written and handed to a party, the reader or a rig.
-// Keeps 02 (i) and (iv). An outcome is the number of a refusal, or one of those named here.
+// Keeps 02 (i) and (iv).
 use crate::trying;
 use menu_rows::Entry;
-use std::io;
-use wording::Wrote;
+use wording::Refusal;
 
-const ACCEPTED: u8 = 0;
+#[derive(Clone, Copy)]
+pub(crate) enum Outcome {
+    Accepted,
+    // By a rig, with that number.
+    Refused(u8),
+    // Read back as it was, and written again alike.
+    Alike,
+    Other,
+    // By the writer, 25.
+    TooWide,
+}
 
-// Read back as it was, and written again alike.
-const ALIKE: u8 = 16;
+// A rig as it starts, and one with relay and stepping on and limits 10, 7 and 3.
+#[derive(Clone, Copy)]
+pub(crate) enum Party {
+    Reader,
+    FreshRig,
+    ReadyRig,
+}
 
-pub(crate) const OTHER: u8 = 17;
-
-// Not written: a rig has nothing to answer. Above all others, and not told.
-pub(crate) const NONE: u8 = 255;
-
-// The parties: the reader, a rig as it starts, and one with relay and stepping on and limits 10, 7 and 3.
-pub(crate) const READER: u8 = 0;
-
-pub(crate) const FRESH: u8 = 1;
-
-pub(crate) const READY: u8 = 2;
-
-fn of_words(e: Entry, list: &[u16], party: u8) -> u8 {
+fn of_words(e: Entry, list: &[u16], party: Party) -> Outcome {
     match party {
-        FRESH => trying::sent(rig::start(), list),
-        READY => trying::sent(trying::ready_rig(), list),
-        _ => {
-            if trying::is_back(e, list) {
-                return ALIKE;
-            }
-            OTHER
-        }
+        Party::Reader => trying::read_back(e, list),
+        Party::FreshRig => trying::sent(rig::start(), list),
+        Party::ReadyRig => trying::sent(trying::ready_rig(), list),
     }
 }
 
-pub(crate) fn of_entry(e: Entry, party: u8) -> u8 {
+// Of what is not written a rig has nothing to answer.
+pub(crate) fn of_entry(e: Entry, party: Party) -> Option<Outcome> {
     let mut buf = [0u16; 4];
-    match word_writer::write(menu_rows::command(e.row, e.first, e.second), &mut buf) {
-        Wrote::Words(n) => of_words(e, trying::front(&buf, n), party),
-        Wrote::Refused(why) => {
-            if party == READER {
-                return wording::number(why);
-            }
-            NONE
-        }
-    }
-}
-
-// An outcome in words.
-pub(crate) fn say(rt: &impl Print, outcome: u8) -> io::Result<()> {
-    match outcome {
-        ACCEPTED => printing::text(rt, b" accepted"),
-        ALIKE => printing::text(rt, b" written, read back and written again alike"),
-        25 => printing::text(rt, b" refused 25"),
-        1..=15 => {
-            printing::text(rt, b" refused ")?;
-            printing::byte(rt, outcome)
-        }
-        _ => printing::text(rt, b" otherwise"),
+    match (word_writer::write(menu_rows::command(e), &mut buf), party) {
+        (Ok(n), _) => Some(of_words(e, trying::front(&buf, n), party)),
+        (Err(Refusal::TooWide), Party::Reader) => Some(Outcome::TooWide),
+        (Err(_), Party::Reader) => Some(Outcome::Other),
+        (Err(_), _) => None,
     }
 }

@@ -1,5 +1,6 @@
 -- The laws of the names hold: computed over the table, and taken to the parts.
 -- Assumes nothing.
+use Rattle.std.specs.Prelude.{Some}
 use mathlib.Core.Path.{◌≡◌, ap}
 use Prim.Native.Nat.{ℕ, ◌<◌}
 use lib.Dec.{eqb, ltb, eqb→eq, ltb→lt}
@@ -10,7 +11,6 @@ use Rattle.block.specs.declared.Part.TheVariants.{Marker}
 use Rattle.block.specs.Tables.{row_of, parts}
 use Rattle.block.proofs.Laws.{ranked, every_part}
 use Rattle.names.proofs.Texts.{apart}
-use Rattle.part_names.specs.declared.Listed.TheVariants.{Is}
 use Rattle.part_names.specs.Names.{part_name}
 use Rattle.part_names.specs.Laws.{Laws}
 
@@ -26,7 +26,7 @@ room p = eqb→eq _ _ (every_part (λ q. eqb (length (part_name q)) 20) tt p)
 pub laws : Laws
 laws =
     record {
-      found = λ p. rw (lt-ltb _ _ (part_lt p)) (ap Is (ranked p));
+      found = λ p. rw (lt-ltb _ _ (part_lt p)) (ap Some (ranked p));
       past = λ n h. rw (le-ltb _ _ h);
       apart = apart part_name part_at row_of ranked 19 part_lt tt;
       room = room;

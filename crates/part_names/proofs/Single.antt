@@ -5,7 +5,7 @@ use mathlib.Core.List.{List}
 use Prim.Native.Nat.{ℕ}
 use Rattle.base.proofs.Single.{same}
 use Rattle.block.specs.declared.Part.{Part}
-use Rattle.part_names.specs.declared.Listed.{Listed}
+use Rattle.part_names.specs.Shapes.{Listed}
 use Rattle.part_names.proofs.part_in.Reads as part_in
 use Rattle.part_names.proofs.part_name.Reads as part-name
 

@@ -1,3 +1,4 @@
 -- The parts by number and by name.
+pub mod Shapes
 pub mod Names
 pub mod Laws

@@ -1,13 +1,12 @@
 -- The name of each part of a data block, and the part of each number (01, "Data blocks").
 -- Assumes nothing.
-use Rattle.std.specs.Prelude.{List, ℕ, ltb, length, get_or}
+use Rattle.std.specs.Prelude.{List, ℕ, ltb, length, get_or, Some, None}
 use Rattle.base.specs.Ascii.{ascii}
 use Rattle.base.specs.Pick.{pick}
 use Rattle.block.specs.declared.Part.{Part}
 use Rattle.block.specs.declared.Part.TheVariants.{Marker, Index, Descriptor1, Calibration, MSigns, Sgl0, DirectEvents, HSpct, ISpct, Sgl1, Sgl2, Sgl3, IPad, I3dd, Mtrx, Descriptor2, EPad, E3dd, M}
 use Rattle.block.specs.Tables.{parts}
-use Rattle.part_names.specs.declared.Listed.{Listed}
-use Rattle.part_names.specs.declared.Listed.TheVariants.{Nothing, Is}
+use Rattle.part_names.specs.Shapes.{Listed}
 
 -- as G's position tables have it
 abbrev pub part_name : Part → List ℕ
@@ -33,4 +32,4 @@ part_name M = ascii "m                   "
 
 -- the part of a number, in the order of NM's table; none past the last
 abbrev pub part_in : ℕ → Listed
-part_in k = pick (ltb k (length parts)) (Is (get_or parts k Marker)) Nothing
+part_in k = pick (ltb k (length parts)) (Some (get_or parts k Marker)) None

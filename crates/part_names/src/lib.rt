@@ -12,36 +12,30 @@ use names::NAME;
 pub const PARTS: usize = 19;
 
 // The part of a number, in the order of NM's table, or none past the last.
-#[derive(Clone, Copy)]
-pub enum Listed {
-    Nothing,
-    Is(Part),
-}
-
-pub fn part_in(n: usize) -> Listed
+pub fn part_in(n: usize) -> Option<Part>
     ensures { result ≡ part_in n }
 {
     match n {
-        0 => Listed::Is(Part::Marker),
-        1 => Listed::Is(Part::Index),
-        2 => Listed::Is(Part::Descriptor1),
-        3 => Listed::Is(Part::Calibration),
-        4 => Listed::Is(Part::MSigns),
-        5 => Listed::Is(Part::Sgl0),
-        6 => Listed::Is(Part::DirectEvents),
-        7 => Listed::Is(Part::HSpct),
-        8 => Listed::Is(Part::ISpct),
-        9 => Listed::Is(Part::Sgl1),
-        10 => Listed::Is(Part::Sgl2),
-        11 => Listed::Is(Part::Sgl3),
-        12 => Listed::Is(Part::IPad),
-        13 => Listed::Is(Part::I3dd),
-        14 => Listed::Is(Part::Mtrx),
-        15 => Listed::Is(Part::Descriptor2),
-        16 => Listed::Is(Part::EPad),
-        17 => Listed::Is(Part::E3dd),
-        18 => Listed::Is(Part::M),
-        _ => Listed::Nothing,
+        0 => Some(Part::Marker),
+        1 => Some(Part::Index),
+        2 => Some(Part::Descriptor1),
+        3 => Some(Part::Calibration),
+        4 => Some(Part::MSigns),
+        5 => Some(Part::Sgl0),
+        6 => Some(Part::DirectEvents),
+        7 => Some(Part::HSpct),
+        8 => Some(Part::ISpct),
+        9 => Some(Part::Sgl1),
+        10 => Some(Part::Sgl2),
+        11 => Some(Part::Sgl3),
+        12 => Some(Part::IPad),
+        13 => Some(Part::I3dd),
+        14 => Some(Part::Mtrx),
+        15 => Some(Part::Descriptor2),
+        16 => Some(Part::EPad),
+        17 => Some(Part::E3dd),
+        18 => Some(Part::M),
+        _ => None,
     }
 }
 

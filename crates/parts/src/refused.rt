@@ -1,61 +1,38 @@
 // Bytes that are no block, each asked for a part, for events and for an item: what is wrong with the block comes first.
 // Keeps rows 19 to 21 of 01 "What the numbers mean", and its order: 20 (under 3), 19, 20, 21, 24, 22, 23.
-use block::{Kind, Located, Part};
-use event::{Evented, Itemed};
+use block::{Kind, Part, Refusal};
 use std::io;
 
-// What one asking got: the number of the refusal, or that it was found.
-fn say(rt: &impl Print, why: block::Refusal) -> io::Result<()> {
-    printing::number_after(rt, b" ", u64::from(block::number(why)))
-}
-
-fn say_part(rt: &impl Print, name: &[u8], b: &[u8], part: Part) -> io::Result<()> {
-    printing::text(rt, name)?;
-    match locating::locate(b, part) {
-        Located::At(_, _) => printing::text(rt, b" found"),
-        Located::Refused(why) => say(rt, why),
-    }
-}
-
-fn say_event(rt: &impl Print, name: &[u8], evented: Evented) -> io::Result<()> {
-    printing::text(rt, name)?;
-    match evented {
-        Evented::Is(_) => printing::text(rt, b" found"),
-        Evented::Refused(why) => say(rt, why),
-    }
-}
-
-fn say_item(rt: &impl Print, name: &[u8], itemed: Itemed) -> io::Result<()> {
-    printing::text(rt, name)?;
-    match itemed {
-        Itemed::Is(_) => printing::text(rt, b" found"),
-        Itemed::Refused(why) => say(rt, why),
+// What one asking got: that it was found, or the number of the refusal.
+fn say<T: Copy>(rt: &impl Print, name: &str, answer: Result<T, Refusal>) -> io::Result<()> {
+    match answer {
+        Ok(_) => print!(rt; "{name} found"),
+        Err(why) => print!(rt; "{name} {}", block::number(why)),
     }
 }
 
 // The rest of a line: what each asking gets. SGL0 is not in BM1, and event 106 in neither layout.
 fn ask(rt: &impl Print, b: &[u8]) -> io::Result<()> {
-    printing::number_after(rt, b", length ", b.len() as u64)?;
-    say_part(rt, b": marker", b, Part::Marker)?;
-    say_part(rt, b", SGL0", b, Part::Sgl0)?;
-    say_event(rt, b", event 0", event::direct_event(b, 0))?;
-    say_event(rt, b", event 106", event::direct_event(b, 106))?;
-    say_event(rt, b", IFFT event 0", ifft::ifft_event(b, 0))?;
-    say_item(rt, b", IFFT item 0", ifft::ifft_item(b, 0))?;
-    printing::text(rt, b"\n")
+    print!(rt; ", length {}", b.len())?;
+    say(rt, ": marker", locating::locate(b, Part::Marker))?;
+    say(rt, ", SGL0", locating::locate(b, Part::Sgl0))?;
+    say(rt, ", event 0", event::direct_event(b, 0))?;
+    say(rt, ", event 106", event::direct_event(b, 106))?;
+    say(rt, ", IFFT event 0", ifft::ifft_event(b, 0))?;
+    say(rt, ", IFFT item 0", ifft::ifft_item(b, 0))?;
+    rt.println("")
 }
 
 // A marker, then zeros, at each of these lengths. A BM1 block of zeros has no inner marker.
 fn lengths(rt: &impl Print, marker: [u8; 3], list: &[usize]) -> io::Result<()> {
     let mut b = [0u8; 2305];
-    b[0] = marker[0];
-    b[1] = marker[1];
-    b[2] = marker[2];
+    b[..3].copy_from_slice(&marker);
     for n in list {
-        printing::hex_byte_after(rt, b"zeros after ", marker[0])?;
-        printing::hex_byte_after(rt, b"", marker[1])?;
-        printing::hex_byte_after(rt, b"", marker[2])?;
-        ask(rt, locating::slice_of(&b, Located::At(0, *n)))?;
+        rt.print("zeros after ")?;
+        for byte in &marker {
+            print!(rt; "{:02x}", *byte)?;
+        }
+        ask(rt, b.get(..*n).unwrap_or(&[]))?;
     }
     Ok(())
 }
@@ -63,11 +40,11 @@ fn lengths(rt: &impl Print, marker: [u8; 3], list: &[usize]) -> io::Result<()> {
 // A BM1 block with one byte set to 0, at a length.
 fn spoil(rt: &impl Print, at: usize, d1: u8, n: usize) -> io::Result<()> {
     let mut b = samples::made(Kind::Bm1, d1, 0);
-    b[at % 2304] = 0;
-    printing::hex_byte_after(rt, b"BM1 descriptor1 ", d1)?;
-    printing::hex_after(rt, b" byte ", at as u64, 3)?;
-    printing::text(rt, b" wrong")?;
-    ask(rt, locating::slice_of(&b, Located::At(0, n)))
+    if let Some(byte) = b.get_mut(at) {
+        *byte = 0;
+    }
+    print!(rt; "BM1 descriptor1 {d1:02x} byte {at:03x} wrong")?;
+    ask(rt, b.get(..n).unwrap_or(&[]))
 }
 
 // The bytes of the two inner markers, each wrong by itself: in a block, in one that is too short, and in a memory dump.

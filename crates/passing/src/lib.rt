@@ -7,30 +7,11 @@ ghost use Rattle.sending.specs.Sending.{filled_of};
 ghost use Rattle.slots.specs.Slots.{arrived_bench};
 
 use bench::Bench;
-use frame::Wrote;
-use slots::{Outcome, Passed};
+use slots::Passed;
 
 // The next frame is built at a place of the caller's buffer, and from there handed to the desk whole.
 pub fn arrives(bench: Bench, buf: &mut [u8], at: usize) -> Passed
     ensures { (result ≡ arrived_bench bench buf.old at) × (buf.new ≡ filled_of bench.rig buf.old at) }
 {
-    let sent = slots::build(bench, buf, at);
-    let wrote = sent.wrote;
-    let after = sent.bench;
-    match wrote {
-        Wrote::Done => {
-            let end = at + 40;
-            let h = slots::hand(after, &buf[at..end]);
-            let next = h.bench;
-            let answer = h.answer;
-            Passed {
-                bench: next,
-                outcome: Outcome::Slot(answer),
-            }
-        }
-        Wrote::Refused(why) => Passed {
-            bench: after,
-            outcome: Outcome::NoFrame(why),
-        },
-    }
+    slots::pass(bench, buf, at, desk::slot)
 }

@@ -1,5 +1,6 @@
 -- There and back: a command that is told in plain words and typed again is the same command (specs/Plain `ThereAndBack`).
 -- Assumes nothing.
+use Rattle.std.specs.Prelude.{Ok}
 use mathlib.Core.Path.{◌≡◌, refl, ap, ◌∙◌}
 use mathlib.Core.List.{List, [], ◌∷◌, ◌++◌}
 use Prim.Native.Nat.{ℕ, zero, suc, ◌+◌, ◌/◌, ◌%◌, ◌<◌}
@@ -21,7 +22,6 @@ use Rattle.menu_names.proofs.Rows.{each, found}
 use Rattle.menu_rows.specs.Rows.{wanted, made, first_row}
 use Rattle.menu_rows.proofs.Laws.{in_menu, takes_one, supply_back}
 use Rattle.asking.specs.declared.Asked.TheVariants.{Order}
-use Rattle.asking.specs.declared.Setting.TheVariants.{Byte}
 use Rattle.asking.specs.Asks.{setting_of, order_of, ask_of}
 use Rattle.plain_words.specs.Plain.{numbers_said, plain_of, ThereAndBack}
 
@@ -44,7 +44,7 @@ unfolding decimal
 no_space_lem n = no_space_end (front 9 (n / 10)) (digit (n % 10)) (front_no_space 9 (n / 10)) (digit_letter (n % 10))
 
 -- a number that is told is read as the setting
-setting_back : (n : ℕ) → n < 256 → setting_of (number_of (decimal n)) ≡ Byte n
+setting_back : (n : ℕ) → n < 256 → setting_of (number_of (decimal n)) ≡ Ok n
 setting_back n h = rw (decimal_back n (omega arith)) (rw (lt-ltb n 256 h))
 
 -- words behind those of a name that can be spelled

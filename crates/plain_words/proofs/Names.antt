@@ -7,7 +7,7 @@ use Prim.Native.Nat.{ℕ, ◌+◌, ◌≤◌, ◌<◌}
 use native.Mathlib.Omega.{arith}
 use borrow.Author.Tests.{ltb-true, ltb-false, le-leb}
 use lib.Dec.{eqb, ltb}
-use lib.ListN.{length, get_or, drop}
+use lib.ListN.{length, get_or, drop, length-append}
 use Rattle.base.specs.Pick.{pick}
 use Rattle.base.proofs.Cases.{split}
 use Rattle.text.specs.Page.{fitting}
@@ -32,6 +32,9 @@ two_words [] h k = absurd (omega arith)
 two_words (w ∷ []) h k = absurd (omega arith)
 two_words (w ∷ v ∷ []) h k = refl
 two_words (w ∷ v ∷ x ∷ ws) h k = absurd (omega arith)
+
+pub two_long : (a b : List ℕ) → length (a ++ ((space ∷ []) ++ b)) ≡ length a + (1 + length b)
+two_long a b = simp length-append (omega arith)
 
 -- a name takes twenty bytes at most
 pub name_short : (row : ℕ) → length (spoken (name_words row)) ≤ 20

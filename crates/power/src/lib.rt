@@ -5,6 +5,7 @@
 ghost use Rattle.std.specs.Prelude.{◌≡◌};
 ghost use Rattle.power.specs.Power.{spun_of, cut_of, panel_of, set_of};
 
+use judge::Core;
 use rig::{Panel, Rig};
 
 // A setting by the instructor.
@@ -29,35 +30,33 @@ pub fn power_cut(rig: Rig) -> Rig
 pub fn spin(rig: Rig) -> Rig
     ensures { result ≡ spun_of rig }
 {
-    let ordered = rig.core.settings.sensor;
-    let mut core = rig.core;
-    let stop = core.stop;
-    let start = core.start;
-    let deflection = core.deflection;
-    core.stop = stepping::spun(stop);
-    core.start = stepping::spun(start);
-    core.deflection = stepping::spun(deflection);
-    let edbs = base::spin_more(rig.edbs);
-    let mut next = rig;
-    next.core = core;
-    next.register = ordered;
-    next.edbs = edbs;
-    next
+    let core = rig.core;
+    let supplies = [core.stop, core.start, core.deflection];
+    let [stop, start, deflection] = supplies.map(stepping::spun);
+    Rig {
+        core: Core {
+            stop,
+            start,
+            deflection,
+            ..core
+        },
+        register: core.settings.sensor,
+        edbs: base::spin_more(rig.edbs),
+        ..rig
+    }
 }
 
 fn turned(panel: Panel, setting: PanelSetting) -> Panel
     ensures { result ≡ panel_of panel setting }
 {
-    let mut p = panel;
     match setting {
-        PanelSetting::Bias(b) => p.bias = b,
-        PanelSetting::Ground(b) => p.ground = b,
-        PanelSetting::FreeTime(t) => p.free = t,
-        PanelSetting::Flap1(open) => p.flap1 = open,
-        PanelSetting::Flap2(open) => p.flap2 = open,
-        PanelSetting::Flap3(open) => p.flap3 = open,
+        PanelSetting::Bias(bias) => Panel { bias, ..panel },
+        PanelSetting::Ground(ground) => Panel { ground, ..panel },
+        PanelSetting::FreeTime(free) => Panel { free, ..panel },
+        PanelSetting::Flap1(flap1) => Panel { flap1, ..panel },
+        PanelSetting::Flap2(flap2) => Panel { flap2, ..panel },
+        PanelSetting::Flap3(flap3) => Panel { flap3, ..panel },
     }
-    p
 }
 
 // A setting by the instructor.
@@ -65,9 +64,8 @@ fn turned(panel: Panel, setting: PanelSetting) -> Panel
 pub fn set(rig: Rig, setting: PanelSetting) -> Rig
     ensures { result ≡ set_of rig setting }
 {
-    let was = rig.panel;
-    let p = turned(was, setting);
-    let mut next = rig;
-    next.panel = p;
-    next
+    Rig {
+        panel: turned(rig.panel, setting),
+        ..rig
+    }
 }

@@ -5,7 +5,7 @@ use contract.Lifetimes.{Lfts}
 use denote.Triple.Clauses.{AtExit}
 use borrow.Fn.Kinds.{Dens, ended_of}
 use Rattle.base.proofs.Single.{same}
-use Rattle.frame.specs.declared.Reading.{Reading}
+use Rattle.frame.specs.Shapes.{Reading}
 use Rattle.reading.proofs.read.Kinds as read-kinds
 use Rattle.reading.proofs.read.Reads as read
 

@@ -7,7 +7,7 @@ ghost use Rattle.frame.specs.Items.{row_of};
 ghost use Rattle.frame.specs.Read.{read_of};
 ghost use Rattle.reading.specs.Spot.{spot, spot_of};
 
-use frame::{Item, Reading};
+use frame::Item;
 
 // Where an item stands: its word's first byte, what the word is divided by and the remainder then taken; the frames that bring it
 // (index % period == phase); and how many slots old its first frame is then, 0 for an item that one frame brings whole.
@@ -81,26 +81,25 @@ fn field(frame: &[u8], p: Spot) -> u32
     requires { (length frame.now ≡ 40) × (p.byte < 39) × (0 < p.div) × (0 < p.rem) }
     ensures { result ≡ (get_or frame.now p.byte 0 * 256 + get_or frame.now (p.byte + 1) 0) / p.div % p.rem }
 {
-    let at = p.byte;
-    let word = base::wide(frame[at]) * 256 + base::wide(frame[at + 1]);
-    word / p.div % p.rem
+    let word = u16::from_be_bytes([frame[p.byte], frame[p.byte + 1]]);
+    u32::from(word) / p.div % p.rem
 }
 
 // What 40 bytes tell of an item that one frame brings whole.
 #[tactic(auto, using(crate::proofs::Spots::read_spread, crate::proofs::Spots::read_lacks, crate::proofs::Spots::read_brings, crate::proofs::Spots::read_short))]
-pub fn read(frame: &[u8], item: Item) -> Reading
+pub fn read(frame: &[u8], item: Item) -> Option<u32>
     ensures { result ≡ read_of frame.now (row_of item) }
 {
     if frame.len() != 40 {
-        return Reading::Nothing;
+        return None;
     }
     let i = frame[0] % 32;
     let p = spot_of(item);
     if p.born != 0 {
-        return Reading::Nothing;
+        return None;
     }
     if i % p.period != p.phase {
-        return Reading::Nothing;
+        return None;
     }
-    Reading::Value(field(frame, p))
+    Some(field(frame, p))
 }

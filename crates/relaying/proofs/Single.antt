@@ -5,7 +5,7 @@ use Prim.Native.Nat.{ℕ}
 use mathlib.Core.Bool.{Bool}
 use Rattle.base.proofs.Single.{same}
 use Rattle.supply.specs.declared.Supply.{Supply}
-use Rattle.supply.specs.declared.RelayWord.{RelayWord}
+use Rattle.supply.specs.Shapes.{RelayWord}
 use Rattle.relaying.proofs.relay_of.Reads as relay-of
 use Rattle.relaying.proofs.set_relay.Reads as set-relay
 

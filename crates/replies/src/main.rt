@@ -84,12 +84,9 @@ fn show(
     page: &mut [u8; listing::PAGE],
 ) -> io::Result<Lister> {
     let mut piece = [0u8; listing::PIECE];
-    piece[0] = (word / 256) as u8;
-    piece[1] = (word % 256) as u8;
+    [piece[0], piece[1]] = word.to_be_bytes();
     let listed = pieces::list(lister, &piece, n, page);
-    let len = listed.len;
-    let whole: &[u8] = page;
-    rt.write_all(&whole[..len])?;
+    rt.write_all(&page[..listed.len])?;
     Ok(listed.lister)
 }
 
@@ -109,8 +106,7 @@ fn show_all(
 fn main(rt: HostRuntime) -> io::Result<()> {
     let mut page = [0u8; listing::PAGE];
     let opened = listing::open(&mut page);
-    let len = opened.len;
-    rt.write_all(&page[..len])?;
+    rt.write_all(&page[..opened.len])?;
     let all = show_all(&rt, opened.lister, &WORDS, &mut page)?;
     let odd = show(&rt, all, 0x0800, 1, &mut page)?;
     let last = listing::finish(odd, &mut page);

@@ -1,6 +1,6 @@
 -- The rig with one part replaced and nothing else: one line for each field of the rig's record, and of the panel's.
 -- No rule stands here: which part gets what is said where these are used. Assumes nothing.
-use Rattle.std.specs.Prelude.{ℕ, Bool}
+use Rattle.std.specs.Prelude.{ℕ, Bool, Option}
 use Rattle.base.specs.declared.Spins.{Spins}
 use Rattle.judge.specs.declared.Core.{Core}
 use Rattle.judge.specs.declared.Sensor.{Sensor}
@@ -20,7 +20,7 @@ with_register r x = record { core = r.core; register = x; faults = r.faults; pen
 abbrev pub with_faults : Rig → Faults → Rig
 with_faults r x = record { core = r.core; register = r.register; faults = x; pending = r.pending; check = r.check; panel = r.panel; sending = r.sending; edbs = r.edbs }
 
-abbrev pub with_pending : Rig → Pending → Rig
+abbrev pub with_pending : Rig → Option Pending → Rig
 with_pending r x = record { core = r.core; register = r.register; faults = r.faults; pending = x; check = r.check; panel = r.panel; sending = r.sending; edbs = r.edbs }
 
 abbrev pub with_check : Rig → ℕ → Rig

@@ -1,6 +1,6 @@
 -- What a reply says in the paper's numbers: the refusals that it gives, in their order (01, "Command words").
 -- Assumes nothing.
-use Rattle.std.specs.Prelude.{ℕ, ◌≡◌, List, [], ◌∷◌, length, get_or, take}
+use Rattle.std.specs.Prelude.{ℕ, ◌≡◌, List, [], ◌∷◌, ◌++◌, Option, Some, None, slice_get}
 use Rattle.judge.specs.Refusals.{number_of}
 use Rattle.rig.specs.declared.Answer.{Answer}
 use Rattle.rig.specs.declared.Answer.TheVariants.{Accepted, Waiting, Refused}
@@ -20,10 +20,18 @@ refusals_of (Plain a) = answer_refusals a
 refusals_of Swallowed = drop_number ∷ []
 refusals_of (Dropped a) = drop_number ∷ answer_refusals a
 
--- a list of numbers, two at most: how many, and each, 0 where there is none
+-- a list of numbers, two at most: the first and the second, where there are so many
 abbrev pub numbers_in : List ℕ → Numbers
-numbers_in ns = record { count = length ns; first = get_or ns 0 0; second = get_or ns 1 0 }
+numbers_in ns = record { first = slice_get ns 0; second = slice_get ns 1 }
+
+-- the numbers that are told, in their order
+abbrev pub one_told : Option ℕ → List ℕ
+one_told None = []
+one_told (Some n) = n ∷ []
+
+abbrev pub told : Numbers → List ℕ
+told n = one_told n.first ++ one_told n.second
 
 -- two are enough: the numbers that are told are all that the reply gives
 abbrev pub AllTold : Type 0
-AllTold = (reply : Reply) → let n = numbers_in (refusals_of reply) in take n.count (n.first ∷ n.second ∷ []) ≡ refusals_of reply
+AllTold = (reply : Reply) → told (numbers_in (refusals_of reply)) ≡ refusals_of reply

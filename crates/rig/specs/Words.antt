@@ -1,14 +1,13 @@
 -- What one word does to the rig (01, "Command words"), in 01's order.
 -- Assumes nothing.
-use Rattle.std.specs.Prelude.{ℕ, ◌+◌, ◌/◌, ◌%◌, Bool, true, false, ◌&&◌, eqb, ltb}
+use Rattle.std.specs.Prelude.{ℕ, ◌+◌, ◌/◌, ◌%◌, Bool, ◌&&◌, eqb, ltb, Ok, Err, Option, Some, None}
 use Rattle.base.specs.Pick.{pick}
 use Rattle.crc.specs.Crc.{crc_byte}
 use Rattle.crc.specs.Judged.{judge_of}
 use Rattle.crc.specs.declared.Judged.{Judged}
 use Rattle.crc.specs.declared.Judged.TheVariants.{Right, Wrong}
 use Rattle.judge.specs.declared.Core.{Core}
-use Rattle.judge.specs.declared.Verdict.{Verdict}
-use Rattle.judge.specs.declared.Verdict.TheVariants.{Apply, Deny}
+use Rattle.judge.specs.Shapes.{Verdict}
 use Rattle.judge.specs.declared.Refusal.TheVariants.{StrayWord, WrongCheck, WrongCount}
 use Rattle.judge.specs.Refusals.{number_of}
 use Rattle.judge.specs.Commands.{single_of, block_of}
@@ -36,18 +35,17 @@ abbrev pub code_of : ℕ → ℕ
 code_of high = high % 64
 
 -- nothing pending is one value; a head begins a block of n data words, none of which has come
-abbrev pub nothing_pending : Pending
-nothing_pending = record { waiting = false; head = 0; n = 0; got = 0; first = 0; second = 0; check = 0 }
+abbrev pub nothing_pending : Option Pending
+nothing_pending = None
 
 abbrev pub new_block : ℕ → ℕ → Pending
-new_block high n = record { waiting = true; head = high; n = n; got = 0; first = 0; second = 0; check = 0 }
+new_block high n = record { head = high; n = n; got = 0; first = 0; second = 0; check = 0 }
 
 -- the block with one more data word's low byte: the first two are kept, and the check goes on over it. That this is the check of the list of all
 -- that came is a law (laws/specs/Blocks).
 abbrev pub one_more : Pending → ℕ → Pending
 one_more p low =
     record {
-      waiting = p.waiting;
       head = p.head;
       n = p.n;
       got = p.got + 1;
@@ -62,19 +60,19 @@ refused_of r high number = with_faults r (record { error = number; last = high; 
 
 -- A verdict carried out. Acceptance leaves the error code standing; a refusal moves nothing else.
 unfoldable pub settled_of : Rig → ℕ → Verdict → Taken
-settled_of r high (Apply c) = record { rig = with_core r c; reply = Plain Accepted }
-settled_of r high (Deny why) = record { rig = refused_of r high (number_of why); reply = Plain (Refused why) }
+settled_of r high (Ok c) = record { rig = with_core r c; reply = Plain Accepted }
+settled_of r high (Err why) = record { rig = refused_of r high (number_of why); reply = Plain (Refused why) }
 
 -- A head with n over 79 is refused 0Eh, otherwise the block waits (n = 0 too).
 unfoldable pub head_of : Rig → ℕ → ℕ → Taken
-head_of r high n = pick (ltb 79 n) (settled_of r high (Deny WrongCount)) (record { rig = with_pending r (new_block high n); reply = Plain Waiting })
+head_of r high n = pick (ltb 79 n) (settled_of r high (Err WrongCount)) (record { rig = with_pending r (Some (new_block high n)); reply = Plain Waiting })
 
 -- Nothing pending: a single is judged; a head as above; a data or end word is refused 0Bh.
 unfoldable pub fresh_of : Rig → Kind → ℕ → ℕ → Taken
 fresh_of r Single high low = settled_of r high (single_of r.core (code_of high) low)
 fresh_of r Head high low = head_of r high low
-fresh_of r Data high low = settled_of r high (Deny StrayWord)
-fresh_of r End high low = settled_of r high (Deny StrayWord)
+fresh_of r Data high low = settled_of r high (Err StrayWord)
+fresh_of r End high low = settled_of r high (Err StrayWord)
 
 -- Block pending: a data word of the same code, with room left, is kept;
 abbrev pub same_code : Pending → ℕ → Bool
@@ -91,12 +89,11 @@ closes p high = same_code p high && eqb p.got p.n
 -- the last invalid code is the head's.
 unfoldable pub verdict_of : Judged → Core → Pending → Verdict
 verdict_of Right c p = block_of c (code_of p.head) p.n p.first p.second
-verdict_of Wrong c p = Deny WrongCheck
+verdict_of Wrong c p = Err WrongCheck
 
-unfoldable pub closed_of : Rig → ℕ → Taken
-closed_of r low =
-    settled_of (with_check (with_pending r nothing_pending) r.pending.check) r.pending.head
-    (verdict_of (judge_of r.pending.check low) r.core r.pending)
+unfoldable pub closed_of : Rig → Pending → ℕ → Taken
+closed_of r p low =
+    settled_of (with_check (with_pending r nothing_pending) p.check) p.head (verdict_of (judge_of p.check low) r.core p)
 
 -- Each other word drops the block, refused 03h under the head's byte. A dropping data or end word is swallowed with it; a dropping single or head is
 -- then judged afresh, so one word can give two answers.
@@ -111,25 +108,26 @@ after_drop t = record { rig = t.rig; reply = dropped_reply t.reply }
 abbrev pub drop_number : ℕ
 drop_number = 0x03
 
-abbrev pub drop_block : Rig → Rig
-drop_block r = refused_of (with_pending r nothing_pending) r.pending.head drop_number
+abbrev pub drop_block : Rig → Pending → Rig
+drop_block r p = refused_of (with_pending r nothing_pending) p.head drop_number
 
-unfoldable pub dropped_of : Rig → Kind → ℕ → ℕ → Taken
-dropped_of r Single high low = after_drop (fresh_of (drop_block r) Single high low)
-dropped_of r Head high low = after_drop (fresh_of (drop_block r) Head high low)
-dropped_of r Data high low = record { rig = drop_block r; reply = Swallowed }
-dropped_of r End high low = record { rig = drop_block r; reply = Swallowed }
+unfoldable pub dropped_of : Rig → Pending → Kind → ℕ → ℕ → Taken
+dropped_of r p Single high low = after_drop (fresh_of (drop_block r p) Single high low)
+dropped_of r p Head high low = after_drop (fresh_of (drop_block r p) Head high low)
+dropped_of r p Data high low = record { rig = drop_block r p; reply = Swallowed }
+dropped_of r p End high low = record { rig = drop_block r p; reply = Swallowed }
 
-unfoldable pub pending_of : Rig → Kind → ℕ → ℕ → Taken
-pending_of r Data high low =
-    pick (keeps r.pending high) (record { rig = with_pending r (one_more r.pending low); reply = Plain Waiting }) (dropped_of r Data high low)
-pending_of r End high low = pick (closes r.pending high) (closed_of r low) (dropped_of r End high low)
-pending_of r Single high low = dropped_of r Single high low
-pending_of r Head high low = dropped_of r Head high low
+unfoldable pub pending_of : Rig → Pending → Kind → ℕ → ℕ → Taken
+pending_of r p Data high low =
+    pick (keeps p high) (record { rig = with_pending r (Some (one_more p low)); reply = Plain Waiting }) (dropped_of r p Data high low)
+pending_of r p End high low = pick (closes p high) (closed_of r p low) (dropped_of r p End high low)
+pending_of r p Single high low = dropped_of r p Single high low
+pending_of r p Head high low = dropped_of r p Head high low
 
 -- One word.
+unfoldable pub take_with : Rig → Option Pending → Kind → ℕ → ℕ → Taken
+take_with r None kind high low = fresh_of r kind high low
+take_with r (Some p) kind high low = pending_of r p kind high low
+
 unfoldable pub take_of : Rig → ℕ → Taken
-take_of r word =
-    pick r.pending.waiting
-    (pending_of r (kind_of (high_of word)) (high_of word) (low_of word))
-    (fresh_of r (kind_of (high_of word)) (high_of word) (low_of word))
+take_of r word = take_with r r.pending (kind_of (high_of word)) (high_of word) (low_of word)

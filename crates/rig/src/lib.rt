@@ -3,7 +3,6 @@
 #![tactic(auto)]
 
 ghost use Rattle.std.specs.Prelude.{◌≡◌};
-ghost use Rattle.rig.specs.Words.{nothing_pending};
 ghost use Rattle.rig.specs.Start.{start_core, start_rig};
 
 use base::Spins;
@@ -27,10 +26,9 @@ pub struct Faults {
     pub count: u8,
 }
 
-// The block that waits: its head's high byte, how many data words it has and how many came; of their low bytes the first two, and the check so far.
+// A block that waits: its head's high byte, how many data words it has and how many came; of their low bytes the first two, and the check so far.
 #[derive(Clone, Copy)]
 pub struct Pending {
-    pub waiting: bool,
     pub head: u8,
     pub n: u8,
     pub got: u8,
@@ -65,7 +63,7 @@ pub struct Rig {
     pub edbs: Spins,
     pub sending: Sending,
     pub core: Core,
-    pub pending: Pending,
+    pub pending: Option<Pending>,
     pub panel: Panel,
     pub check: u8,
     pub faults: Faults,
@@ -108,27 +106,11 @@ pub struct Taken {
     pub reply: Reply,
 }
 
-// The refusals that a reply gives, by number and in their order: how many, two at most, and 0 where there is none.
+// The refusals that a reply gives, by number and in their order: two at most.
 #[derive(Clone, Copy)]
 pub struct Numbers {
-    pub count: u8,
-    pub first: u8,
-    pub second: u8,
-}
-
-// No block waits: one value, to which a close, a drop and a power cut return.
-pub fn nothing_pending() -> Pending
-    ensures { result ≡ nothing_pending }
-{
-    Pending {
-        waiting: false,
-        head: 0,
-        n: 0,
-        got: 0,
-        first: 0,
-        second: 0,
-        check: 0,
-    }
+    pub first: Option<u8>,
+    pub second: Option<u8>,
 }
 
 // What commands move, at the start.
@@ -174,7 +156,6 @@ pub fn start() -> Rig
 {
     let core = start_core();
     let register = core.settings.sensor;
-    let pending = nothing_pending();
     Rig {
         core,
         register,
@@ -183,7 +164,7 @@ pub fn start() -> Rig
             last: 0xFF,
             count: 0,
         },
-        pending,
+        pending: None,
         check: 0,
         panel: Panel {
             bias: 0,

@@ -9,9 +9,9 @@ use std::io;
 
 // The blocks, the singles, one refusal, and three spins towards the target.
 fn commanded(rt: &impl Print, bench: Bench) -> io::Result<Bench> {
-    let mux = steps::block(rt, bench, 0x6002, 0xA041, 0xA001, 0xE049)?;
-    let direction = steps::block(rt, mux, 0x6302, 0xA303, 0xA313, 0xE346)?;
-    let energy = steps::block(rt, direction, 0x6402, 0xA401, 0xA41E, 0xE44F)?;
+    let mux = steps::block(rt, bench, [0x6002, 0xA041, 0xA001, 0xE049])?;
+    let direction = steps::block(rt, mux, [0x6302, 0xA303, 0xA313, 0xE346])?;
+    let energy = steps::block(rt, direction, [0x6402, 0xA401, 0xA41E, 0xE44F])?;
     let singles = [
         0x0C03, 0x2605, 0x2B01, 0x0802, 0x2D01, 0x290A, 0x2807, 0x280B,
     ];
@@ -19,37 +19,26 @@ fn commanded(rt: &impl Print, bench: Bench) -> io::Result<Bench> {
     steps::spins(rt, sent, 3)
 }
 
-fn setting(k: u32) -> PanelSetting {
-    match k {
-        0 => PanelSetting::Bias(0x9A),
-        1 => PanelSetting::Ground(0x70),
-        2 => PanelSetting::FreeTime(0x1234),
-        3 => PanelSetting::Flap1(true),
-        _ => PanelSetting::Flap3(true),
-    }
-}
-
 fn paneled(rt: &impl Print, bench: Bench) -> io::Result<Bench> {
-    printing::text(
-        rt,
-        b"bias 9Ah, ground 70h, free time 1234h, flaps 1 and 3\n",
-    )?;
-    let mut b = bench;
-    for k in 0..5 {
-        b = bench::set(b, setting(k));
-    }
-    Ok(b)
+    println!(rt; "bias 9Ah, ground 70h, free time 1234h, flaps 1 and 3")?;
+    let settings = [
+        PanelSetting::Bias(0x9A),
+        PanelSetting::Ground(0x70),
+        PanelSetting::FreeTime(0x1234),
+        PanelSetting::Flap1(true),
+        PanelSetting::Flap3(true),
+    ];
+    Ok(settings.into_iter().fold(bench, bench::set))
 }
 
 // A frame's line: frame 0 whole, of the others the bytes that the index governs.
 fn say_frame(rt: &impl Print, f: &[u8; 40]) -> io::Result<()> {
-    printing::text(rt, b"frame ")?;
-    printing::small(rt, f[0])?;
+    print!(rt; "frame {}", f[0])?;
     if f[0] == 0 {
-        printing::part(rt, f, 1, 40)?;
+        printing::bytes(rt, &f[1..])?;
     } else {
-        printing::text(rt, b" bytes 37 to 39")?;
-        printing::part(rt, f, 37, 40)?;
+        print!(rt; " bytes 37 to 39")?;
+        printing::bytes(rt, &f[37..])?;
     }
     printing::end(rt)
 }
@@ -67,7 +56,7 @@ fn all_heard(rt: &impl Print, bench: Bench, times: u32) -> io::Result<Bench> {
 
 // The rig with every item set, after one round of its frames.
 fn one_round(rt: &impl Print) -> io::Result<Bench> {
-    printing::text(rt, b"a round of frames\n")?;
+    println!(rt; "a round of frames")?;
     let spun = steps::spins(rt, bench::fresh(), 66048)?;
     let ready = commanded(rt, spun)?;
     let set = paneled(rt, ready)?;
@@ -76,18 +65,17 @@ fn one_round(rt: &impl Print) -> io::Result<Bench> {
 
 // The two items that differ most after a power cut: one comes in every frame, the other stays until frame 21.
 fn after_the_cut(rt: &impl Print, bench: Bench) -> io::Result<()> {
-    let desk = bench.desk;
-    showing::say(rt, desk, Item::LastInvalidCode)?;
-    printing::end(rt)?;
-    showing::say(rt, desk, Item::LastCheck)?;
-    printing::end(rt)
+    for item in [Item::LastInvalidCode, Item::LastCheck] {
+        showing::say(rt, bench.desk, item)?;
+        printing::end(rt)?;
+    }
+    Ok(())
 }
 
 fn main(rt: HostRuntime) -> io::Result<()> {
     let round = one_round(&rt)?;
-    let desk = round.desk;
-    showing::all(&rt, desk)?;
-    printing::text(&rt, b"power cut\n")?;
+    showing::all(&rt, round.desk)?;
+    println!(rt; "power cut")?;
     let heard = all_heard(&rt, bench::power_cut(round), 1)?;
     after_the_cut(&rt, heard)
 }

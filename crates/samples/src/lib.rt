@@ -12,8 +12,8 @@ use std::io;
 fn fill(b: &mut [u8])
     ensures { b.new ≡ positions (length b.old) b.old }
 {
-    for i in 0..b.len() {
-        b[i] = (i % 256) as u8;
+    for (i, x) in b.iter_mut().enumerate() {
+        *x = (i % 256) as u8;
     }
 }
 
@@ -40,6 +40,7 @@ pub fn made(kind: Kind, d1: u8, d2: u8) -> [u8; 2304]
     b
 }
 
+// No Display of `block`: its users print nothing, and two programs need these two texts.
 pub fn say_kind(rt: &impl Print, kind: Kind) -> io::Result<()> {
     match kind {
         Kind::Nm => printing::text(rt, b"NM"),
@@ -48,5 +49,5 @@ pub fn say_kind(rt: &impl Print, kind: Kind) -> io::Result<()> {
 }
 
 pub fn say_refused(rt: &impl Print, why: Refusal) -> io::Result<()> {
-    printing::number_after(rt, b" refused ", u64::from(block::number(why)))
+    printing::number_after(rt, b" refused ", block::number(why))
 }

@@ -1,2 +1,3 @@
--- Single outcome of the function.
+-- A switch as a number, and single outcome of the function.
+pub mod Bits
 pub mod Single

@@ -1,10 +1,9 @@
 -- What the rig shows in a frame, and what building one does to it (01, "The 40-byte frame"; 02 (ii) and (iv)). Rig and frame meet here alone.
 -- Assumes nothing.
-use Rattle.std.specs.Prelude.{ℕ, ◌+◌, ◌/◌, ◌%◌, Bool, List}
+use Rattle.std.specs.Prelude.{ℕ, ◌+◌, ◌/◌, ◌%◌, Bool, List, Ok, Err}
 use Rattle.base.specs.Pick.{pick}
 use Rattle.frame.specs.declared.Held.{Held}
-use Rattle.frame.specs.declared.Wrote.{Wrote}
-use Rattle.frame.specs.declared.Wrote.TheVariants.{Done, Refused}
+use Rattle.frame.specs.Shapes.{Wrote}
 use Rattle.frame.specs.Write.{frame_of, latch_of, wrote_of, written}
 use Rattle.rig.specs.declared.Rig.{Rig}
 use Rattle.rig.specs.Records.{with_sending}
@@ -70,12 +69,12 @@ next_frame r = frame_of (held_of r) r.sending.next (next_latch r)
 
 -- A frame built: the index rises modulo 32, and the latch stands. On 18 nothing changes: nothing is latched, no frame is used up.
 abbrev pub sent_with : Wrote → Rig → ℕ → Rig
-sent_with Done r latch = with_sending r (record { next = (r.sending.next + 1) % 32; latch = latch })
-sent_with (Refused why) r latch = r
+sent_with (Ok tt) r latch = with_sending r (record { next = (r.sending.next + 1) % 32; latch = latch })
+sent_with (Err why) r latch = r
 
 -- the rig that has built its next frame
 abbrev pub sent : Rig → Rig
-sent r = sent_with Done r (next_latch r)
+sent r = sent_with (Ok tt) r (next_latch r)
 
 -- the rig, and whether there was room, where a frame was to be built at a place of the buffer b; and what the buffer then holds
 abbrev pub built_of : Rig → List ℕ → ℕ → Built

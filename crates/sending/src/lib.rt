@@ -3,33 +3,24 @@
 #![tactic(auto)]
 
 ghost use Rattle.std.specs.Prelude.{◌≡◌, ◌+◌, ◌%◌};
-ghost use Rattle.sending.specs.Sending.{bit, held_of, sent_with, built_of, filled_of};
+ghost use Rattle.sending.specs.Sending.{held_of, sent_with, built_of, filled_of};
 
 use base::Spins;
-use frame::{Held, Wrote};
+use frame::{Held, Refusal};
 use rig::{Rig, Sending};
 
-// The rig after a frame was to be built, and whether it was.
+// The rig after a frame was to be built, and whether it was: both, since a refusal too says what the rig then is (`built_of`).
 #[derive(Clone, Copy)]
 pub struct Built {
     pub rig: Rig,
-    pub wrote: Wrote,
-}
-
-fn bit_of(b: bool) -> u8
-    ensures { result ≡ bit b }
-{
-    if b {
-        return 1;
-    }
-    0
+    pub wrote: Result<(), Refusal>,
 }
 
 // The long EDB counter minus 1, modulo 64; 0 gives 63.
 fn reduced(edbs: Spins) -> u8
     ensures { result ≡ (edbs.0 + 63) % 64 }
 {
-    ((edbs.0 % 64 + 63) % 64) as u8
+    (edbs.0.wrapping_sub(1) % 64) as u8
 }
 
 // What the rig holds of each item of a frame. Of the windows and multiplexers that is the register, not what was ordered (02 (ii)); the relay, which the
@@ -38,7 +29,7 @@ fn held_of(rig: Rig) -> Held
     ensures { result ≡ held_of rig }
 {
     Held {
-        parallel: bit_of(rig.core.settings.parallel),
+        parallel: u8::from(rig.core.settings.parallel),
         mux1: rig.register.mux.byte % 2,
         mux2: rig.register.mux.byte / 0x08 % 2,
         mux3: rig.register.mux.byte / 0x40 % 2,
@@ -48,48 +39,52 @@ fn held_of(rig: Rig) -> Held
         estop: rig.register.energy.stop,
         estart: rig.register.energy.start,
         last: rig.faults.last,
-        enable: bit_of(rig.core.settings.iel.enable),
+        enable: u8::from(rig.core.settings.iel.enable),
         reduced: reduced(rig.edbs),
         bias: rig.panel.bias,
-        relay: bit_of(rig.core.stop.relay),
+        relay: u8::from(rig.core.stop.relay),
         ground: rig.panel.ground,
-        stopstepping: bit_of(rig.core.stop.stepping),
+        stopstepping: u8::from(rig.core.stop.stepping),
         stoplimit: rig.core.stop.limit,
         stoplevel: rig.core.stop.level,
-        flap1: bit_of(rig.panel.flap1),
-        flap2: bit_of(rig.panel.flap2),
-        flap3: bit_of(rig.panel.flap3),
-        clock: bit_of(rig.core.settings.iel.clock),
+        flap1: u8::from(rig.panel.flap1),
+        flap2: u8::from(rig.panel.flap2),
+        flap3: u8::from(rig.panel.flap3),
+        clock: u8::from(rig.core.settings.iel.clock),
         check: rig.check,
         count: rig.faults.count,
         mask: rig.core.settings.mask,
         long: rig.edbs.0,
         free: rig.panel.free,
-        startstepping: bit_of(rig.core.start.stepping),
+        startstepping: u8::from(rig.core.start.stepping),
         startlimit: rig.core.start.limit,
         startlevel: rig.core.start.level,
-        deflectionstepping: bit_of(rig.core.deflection.stepping),
+        deflectionstepping: u8::from(rig.core.deflection.stepping),
         deflectionlimit: rig.core.deflection.limit,
         deflectionlevel: rig.core.deflection.level,
     }
 }
 
+// The index of the frame after that one.
+fn next_index(index: u8) -> u8
+    ensures { result ≡ (index + 1) % 32 }
+{
+    index.wrapping_add(1) % 32
+}
+
 // The rig once the writer has answered: on 18 nothing is latched and no frame is used up.
-fn sent_if(rig: Rig, latch: u32, wrote: Wrote) -> Rig
+fn sent_if(rig: Rig, latch: u32, wrote: Result<(), Refusal>) -> Rig
     ensures { result ≡ sent_with wrote rig latch }
 {
     match wrote {
-        Wrote::Done => {
-            let was = rig.sending;
-            let s = Sending {
-                next: (was.next % 32 + 1) % 32,
+        Ok(()) => Rig {
+            sending: Sending {
+                next: next_index(rig.sending.next),
                 latch,
-            };
-            let mut next = rig;
-            next.sending = s;
-            next
-        }
-        Wrote::Refused(_) => rig,
+            },
+            ..rig
+        },
+        Err(_) => rig,
     }
 }
 
@@ -102,6 +97,8 @@ pub fn build(rig: Rig, buf: &mut [u8], at: usize) -> Built
     let next = sending.next;
     let latch = latching::latched(held, next, sending.latch);
     let wrote = writing::write_at(held, next, latch, buf, at);
-    let after = sent_if(rig, latch, wrote);
-    Built { rig: after, wrote }
+    Built {
+        rig: sent_if(rig, latch, wrote),
+        wrote,
+    }
 }

@@ -2,39 +2,33 @@
 // Keeps 01 "Volts": the sheet holds both readings. Until both are known there is none.
 #![tactic(auto)]
 
+ghost use Rattle.std.specs.Prelude.{◌≡◌, ◌%◌};
 ghost use Rattle.frame.specs.declared.Item.TheVariants.{Bias, Ground};
 ghost use Rattle.frame.specs.Items.{row_of};
 ghost use Rattle.desk.specs.Desk.{shows};
 ghost use Rattle.sheet.specs.Sheeted.{InVolts};
 
-use cell::Shown;
+use cell::Known;
 use desk::Desk;
 use frame::Item;
 use volts::Sheet;
 
-#[derive(Clone, Copy)]
-pub enum Sheeted {
-    Unknown,
-    Is(Sheet),
+// The byte that is shown.
+fn byte_of(known: Known) -> u8
+    ensures { result ≡ known.value % 256 }
+{
+    (known.value % 256) as u8
 }
 
 // The two readings, shown as they are, in volts.
-fn in_volts(bias: Shown, ground: Shown) -> Sheeted
+fn in_volts(bias: Option<Known>, ground: Option<Known>) -> Option<Sheet>
     ensures { InVolts bias ground result }
 {
-    match bias {
-        Shown::Unknown => Sheeted::Unknown,
-        Shown::Known(b, _) => match ground {
-            Shown::Unknown => Sheeted::Unknown,
-            Shown::Known(g, _) => Sheeted::Is(volts::sheet_of((b % 256) as u8, (g % 256) as u8)),
-        },
-    }
+    Some(volts::sheet_of(byte_of(bias?), byte_of(ground?)))
 }
 
-pub fn sheet_at(desk: Desk) -> Sheeted
+pub fn sheet_at(desk: Desk) -> Option<Sheet>
     ensures { InVolts (shows desk (row_of Bias)) (shows desk (row_of Ground)) result }
 {
-    let bias = desk::look(desk, Item::Bias);
-    let ground = desk::look(desk, Item::Ground);
-    in_volts(bias, ground)
+    in_volts(desk::look(desk, Item::Bias), desk::look(desk, Item::Ground))
 }

@@ -3,8 +3,10 @@
 #![tactic(auto)]
 
 ghost use Rattle.std.specs.Prelude.{◌≡◌, ◌++◌, ◌+◌, ◌≤◌, length};
-ghost use Rattle.text.specs.Page.{Puts};
-ghost use Rattle.shift_lines.specs.Lines.{shown, start_text, step_text, byte_lines, check_line};
+ghost use Rattle.text.specs.Page.{Gets, RoomFor};
+ghost use Rattle.shift_lines.specs.Lines.{shown, start_text, step_text, step_lines, byte_lines, check_line};
+
+use text::Page;
 
 // The lines of a byte, 33 letters each.
 pub const LINES: usize = 297;
@@ -13,7 +15,7 @@ pub const LINES: usize = 297;
 fn shown_of(x: u8) -> [u8; 13]
     ensures { result ≡ shown x }
 {
-    let hex = text::hex(x);
+    let [high, low] = text::hex(x);
     [
         b' ',
         b'0' + x / 0x80 % 2,
@@ -25,8 +27,8 @@ fn shown_of(x: u8) -> [u8; 13]
         b'0' + x / 0x02 % 2,
         b'0' + x / 0x01 % 2,
         b' ',
-        hex[0],
-        hex[1],
+        high,
+        low,
         b'\n',
     ]
 }
@@ -35,13 +37,9 @@ fn shown_of(x: u8) -> [u8; 13]
 fn start_text(check: u8, byte: u8) -> [u8; 20]
     ensures { result ≡ start_text check byte }
 {
-    let c = text::hex(check);
-    let b = text::hex(byte);
     let mut start = *b"check 00 xor byte 00";
-    start[6] = c[0];
-    start[7] = c[1];
-    start[18] = b[0];
-    start[19] = b[1];
+    [start[6], start[7]] = text::hex(check);
+    [start[18], start[19]] = text::hex(byte);
     start
 }
 
@@ -50,51 +48,63 @@ fn start_text(check: u8, byte: u8) -> [u8; 20]
 fn step_text(k: u8, x: u8) -> [u8; 20]
     ensures { result ≡ step_text k x }
 {
-    let hex = text::hex(k);
+    let [_, digit] = text::hex(k);
     if x < 0x80 {
         let mut quiet = *b"step 0 out 0        ";
-        quiet[5] = hex[1];
+        quiet[5] = digit;
         return quiet;
     }
     let mut step = *b"step 0 out 1 xor 07 ";
-    step[5] = hex[1];
+    step[5] = digit;
     step
 }
 
 // A line: how it begins, and eight bits.
-fn put_line(begin: &[u8; 20], x: u8, page: &mut [u8; LINES], at: usize) -> usize
-    requires { at + 33 ≤ length page.old }
-    ensures { Puts at (begin.now ++ shown x) page.old result page.new }
+fn put_line(begin: &[u8; 20], x: u8, page: &mut Page)
+    requires { RoomFor 33 page.old }
+    ensures { Gets (begin.now ++ shown x) page.old page.new }
 {
-    let next = text::put(begin, page, at);
+    page.put(begin);
     let bits = shown_of(x);
-    text::put(&bits, page, next)
+    page.put(&bits);
+}
+
+// The lines of eight steps.
+fn put_steps(byte: u8, page: &mut Page)
+    requires { RoomFor 264 page.old }
+    ensures { Gets (step_lines 8 1 byte) page.old page.new }
+{
+    let mut x = byte;
+    for k in 1..=8 {
+        let begin = step_text(k, x);
+        x = crc::shift_step(x);
+        put_line(&begin, x, page);
+    }
 }
 
 // The lines of a byte: it begins with the check so far, and takes eight steps.
 pub fn byte_lines(check: u8, byte: u8) -> [u8; LINES]
     ensures { result ≡ byte_lines check byte }
 {
-    let mut page = [0u8; LINES];
-    let mut x = check ^ byte;
-    let mut at = put_line(&start_text(check, byte), x, &mut page, 0);
-    let mut k: u8 = 1;
-    while k <= 8 {
-        let begin = step_text(k, x);
-        x = crc::shift_step(x);
-        at = put_line(&begin, x, &mut page, at);
-        k += 1;
-    }
-    page
+    let mut lines = [0u8; LINES];
+    let mut page = Page {
+        bytes: &mut lines,
+        at: 0,
+    };
+    let both = check ^ byte;
+    let begin = start_text(check, byte);
+    put_line(&begin, both, &mut page);
+    put_steps(both, &mut page);
+    lines
 }
 
 // The last line.
 pub fn check_line(check: u8) -> [u8; 9]
     ensures { result ≡ check_line check }
 {
-    let hex = text::hex(check);
+    let [high, low] = text::hex(check);
     let mut line = *b"check 00\n";
-    line[6] = hex[0];
-    line[7] = hex[1];
+    line[6] = high;
+    line[7] = low;
     line
 }

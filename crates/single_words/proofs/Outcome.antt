@@ -4,7 +4,7 @@ use mathlib.Core.Path.{◌≡◌}
 use Prim.Native.Nat.{ℕ}
 use Rattle.base.proofs.Single.{same}
 use Rattle.judge.specs.declared.Core.{Core}
-use Rattle.judge.specs.declared.Verdict.{Verdict}
+use Rattle.judge.specs.Shapes.{Verdict}
 use Rattle.single_words.proofs.single.Reads as single
 
 pub single_one : (c : Core) (code low : ℕ) (v w : Verdict)

@@ -1,2 +1,3 @@
 -- What passes between rig and desk.
+pub mod Shapes
 pub mod Slots

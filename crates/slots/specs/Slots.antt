@@ -1,10 +1,12 @@
 -- What passes between rig and desk: each moves by its own rule, and a frame built and heard moves both.
 -- Keeps 01 "The 40-byte frame"; the rules are those of `sending` and `desk`. Assumes nothing.
-use Rattle.std.specs.Prelude.{ℕ, List}
-use Rattle.frame.specs.declared.Wrote.{Wrote}
-use Rattle.frame.specs.declared.Wrote.TheVariants.{Done, Refused}
+use denote.Ref.{Bor}
+use Rattle.std.specs.Prelude.{◌≡◌, ℕ, List, Ok, Err}
+use Rattle.std.specs.Fn.{Once, FnOnceReturns}
+use Rattle.frame.specs.Shapes.{Wrote}
 use Rattle.frame.specs.Write.{wrote_of}
 use Rattle.desk.specs.declared.Answer.TheVariants.{Missed}
+use Rattle.desk.specs.declared.Desk.{Desk}
 use Rattle.desk.specs.declared.Received.{Received}
 use Rattle.desk.specs.Desk.{slot_of, missed_of}
 use Rattle.sending.specs.Sending.{next_frame, sent, built_of}
@@ -13,7 +15,6 @@ use Rattle.bench.specs.Bench.{with_rig, with_desk}
 use Rattle.slots.specs.declared.Sent.{Sent}
 use Rattle.slots.specs.declared.Handed.{Handed}
 use Rattle.slots.specs.declared.Passed.{Passed}
-use Rattle.slots.specs.declared.Outcome.TheVariants.{NoFrame, Slot}
 
 -- the next frame built at a place of the buffer s: the rig alone moves; where there is no room it stays as it was (18)
 abbrev pub built_bench : Bench → List ℕ → ℕ → Sent
@@ -29,8 +30,17 @@ missed_bench b = with_desk b (missed_of b.desk)
 
 -- once the frame is written, its slot passes, and the desk makes t of it; where there was no room (18), nothing happens and no slot passes
 abbrev pub passed_if : Wrote → Bench → Received → Passed
-passed_if Done b t = record { bench = record { rig = sent b.rig; desk = t.desk }; outcome = Slot t.answer }
-passed_if (Refused why) b t = record { bench = b; outcome = NoFrame why }
+passed_if (Ok tt) b t = record { bench = record { rig = sent b.rig; desk = t.desk }; outcome = Ok t.answer }
+passed_if (Err why) b t = record { bench = b; outcome = Err why }
+
+-- t is what a call of f may make of a slot, at the desk d and the bytes x that came
+abbrev pub SlotGives : {F : Type 0} → Once F (Desk × (Bor (List ℕ) × Unit {0})) Received → F → Desk → List ℕ → Received → Type 0
+SlotGives g f d x t = (p : Bor (List ℕ)) × FnOnceReturns g f (d, (p, tt)) t × (p.now ≡ x)
+
+-- once the frame is written, its slot passes, and the desk makes of it what is given; where there was no room (18), no slot passes
+abbrev pub PassedBy : (Received → Type 0) → Wrote → Bench → Passed → Type 0
+PassedBy Gives (Ok tt) b y = (t : Received) × Gives t × (y ≡ passed_if (Ok tt) b t)
+PassedBy Gives (Err why) b y = y ≡ record { bench = b; outcome = Err why }
 
 -- the next frame built at a place of the buffer s and handed on whole
 abbrev pub arrived_bench : Bench → List ℕ → ℕ → Passed

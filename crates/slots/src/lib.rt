@@ -3,18 +3,19 @@
 #![tactic(auto)]
 
 ghost use Rattle.std.specs.Prelude.{◌≡◌};
-ghost use Rattle.sending.specs.Sending.{filled_of};
-ghost use Rattle.slots.specs.Slots.{built_bench, handed_of, missed_bench};
+ghost use Rattle.frame.specs.Write.{wrote_of};
+ghost use Rattle.sending.specs.Sending.{next_frame, filled_of};
+ghost use Rattle.slots.specs.Slots.{built_bench, handed_of, missed_bench, SlotGives, PassedBy};
 
 use bench::Bench;
-use desk::Answer;
-use frame::{Refusal, Wrote};
+use desk::{Answer, Desk, Received};
+use frame::Refusal;
 
 // After a frame was to be built: the bench, and whether there was room.
 #[derive(Clone, Copy)]
 pub struct Sent {
     pub bench: Bench,
-    pub wrote: Wrote,
+    pub wrote: Result<(), Refusal>,
 }
 
 // After bytes were handed to the desk: the bench, and what the desk made of them.
@@ -24,32 +25,24 @@ pub struct Handed {
     pub answer: Answer,
 }
 
-// What became of a frame's slot: there was no frame (18), and no slot; or what the desk made of the slot.
-#[derive(Clone, Copy)]
-pub enum Outcome {
-    NoFrame(Refusal),
-    Slot(Answer),
-}
-
-// After a frame was built and its slot passed, whole or missed.
+// After a frame was built and its slot passed: what the desk made of the slot; or there was no frame (18), and no slot.
 #[derive(Clone, Copy)]
 pub struct Passed {
     pub bench: Bench,
-    pub outcome: Outcome,
+    pub outcome: Result<Answer, Refusal>,
 }
 
 // The next frame is built at a place of the caller's buffer; it is for the caller to make a slot of it, whole or missed.
 pub fn build(bench: Bench, buf: &mut [u8], at: usize) -> Sent
     ensures { (result ≡ built_bench bench buf.old at) × (buf.new ≡ filled_of bench.rig buf.old at) }
 {
-    let was = bench.rig;
-    let desk = bench.desk;
-    let b = sending::build(was, buf, at);
-    let sent = b.rig;
-    let wrote = b.wrote;
+    let built = sending::build(bench.rig, buf, at);
     Sent {
-        bench: Bench { rig: sent, desk },
-        wrote,
+        bench: Bench {
+            rig: built.rig,
+            ..bench
+        },
+        wrote: built.wrote,
     }
 }
 
@@ -57,14 +50,13 @@ pub fn build(bench: Bench, buf: &mut [u8], at: usize) -> Sent
 pub fn hand(bench: Bench, frame: &[u8]) -> Handed
     ensures { result ≡ handed_of bench frame.now }
 {
-    let rig = bench.rig;
-    let was = bench.desk;
-    let t = desk::slot(was, frame);
-    let heard = t.desk;
-    let answer = t.answer;
+    let received = desk::slot(bench.desk, frame);
     Handed {
-        bench: Bench { rig, desk: heard },
-        answer,
+        bench: Bench {
+            desk: received.desk,
+            ..bench
+        },
+        answer: received.answer,
     }
 }
 
@@ -72,8 +64,39 @@ pub fn hand(bench: Bench, frame: &[u8]) -> Handed
 pub fn miss(bench: Bench) -> Bench
     ensures { result ≡ missed_bench bench }
 {
-    let rig = bench.rig;
-    let was = bench.desk;
-    let missed = desk::missed(was);
-    Bench { rig, desk: missed }
+    Bench {
+        desk: desk::missed(bench.desk),
+        ..bench
+    }
+}
+
+// The next frame is built at a place of the caller's buffer, and its slot passes at once: `slot` says what the desk makes of the frame's bytes. Where there
+// is no room (18) no slot passes.
+pub fn pass<F: FnOnce(Desk, &[u8]) -> Received>(
+    bench: Bench,
+    buf: &mut [u8],
+    at: usize,
+    slot: F,
+) -> Passed
+    requires { F.IsAlwaysCallable slot }
+    ensures passed { PassedBy (SlotGives F.FnOnce slot bench.desk (next_frame bench.rig)) (wrote_of at buf.old) bench result }
+    ensures written { buf.new ≡ filled_of bench.rig buf.old at }
+{
+    let sent = build(bench, buf, at);
+    match sent.wrote {
+        Ok(()) => {
+            let passed = slot(sent.bench.desk, &buf[at..at + 40]);
+            Passed {
+                bench: Bench {
+                    desk: passed.desk,
+                    ..sent.bench
+                },
+                outcome: Ok(passed.answer),
+            }
+        }
+        Err(why) => Passed {
+            bench: sent.bench,
+            outcome: Err(why),
+        },
+    }
 }

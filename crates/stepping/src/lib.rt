@@ -5,19 +5,18 @@
 ghost use Rattle.std.specs.Prelude.{◌≡◌};
 ghost use Rattle.supply.specs.Rules.{towards, stepped};
 
+use std::cmp::Ordering;
 use supply::Supply;
 
 // One towards the target. Neither sum leaves the range of a byte, since the target is in it.
 fn toward(level: u8, target: u8) -> u8
     ensures { result ≡ towards level target }
 {
-    if level < target {
-        return level + 1;
+    match level.cmp(&target) {
+        Ordering::Less => level + 1,
+        Ordering::Equal => level,
+        Ordering::Greater => level - 1,
     }
-    if target < level {
-        return level - 1;
-    }
-    level
 }
 
 // The level after a spin, from the record by value: what `spin` stores.
@@ -34,8 +33,7 @@ fn next_level(s: Supply) -> u8
 pub fn spin(s: &mut Supply)
     ensures { s.new ≡ stepped s.old }
 {
-    let l = next_level(*s);
-    s.level = l;
+    s.level = next_level(*s);
 }
 
 // The spin for callers that hold the record by value.

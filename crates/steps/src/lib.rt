@@ -2,7 +2,7 @@
 // Keeps 01 "Command words": what the sender of a word hears.
 #![tactic(auto)]
 
-ghost use Rattle.std.specs.Prelude.{◌≡◌, [], ◌∷◌, IfOk};
+ghost use Rattle.std.specs.Prelude.{◌≡◌, IfOk};
 ghost use Rattle.steps.specs.Steps.{sent_one, sent_all, spun_times};
 
 use bench::Bench;
@@ -24,24 +24,17 @@ pub fn send_all(rt: &impl Print, bench: Bench, words: &[u16]) -> io::Result<Benc
     ensures { IfOk result (λ b. b ≡ sent_all bench words.now) }
 {
     let mut b = bench;
-    for i in 0..words.len() {
-        b = send(rt, b, words[i])?;
+    for word in words {
+        b = send(rt, b, *word)?;
     }
     Ok(b)
 }
 
 // The four words of a block that sets two bytes.
-pub fn block(
-    rt: &impl Print,
-    bench: Bench,
-    head: u16,
-    first: u16,
-    second: u16,
-    end: u16,
-) -> io::Result<Bench>
-    ensures { IfOk result (λ b. b ≡ sent_all bench (head ∷ first ∷ second ∷ end ∷ [])) }
+pub fn block(rt: &impl Print, bench: Bench, words: [u16; 4]) -> io::Result<Bench>
+    ensures { IfOk result (λ b. b ≡ sent_all bench words) }
 {
-    send_all(rt, bench, &[head, first, second, end])
+    send_all(rt, bench, &words)
 }
 
 // So many spins.

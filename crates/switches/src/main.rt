@@ -10,123 +10,97 @@ use std::io;
 
 // What the desk shows after 35 slots, which bring every item.
 fn heard(bench: Bench) -> Desk {
-    let mut b = bench;
-    for _ in 0..35 {
+    let told = (0..35).fold(bench, |b, _| {
         let mut f = [0u8; 40];
-        b = passing::arrives(b, &mut f, 0).bench;
-    }
-    b.desk
+        passing::arrives(b, &mut f, 0).bench
+    });
+    told.desk
 }
 
 // What was set, and what the desk then shows that it does not show of a fresh rig.
-fn say_moved(rt: &impl Print, name: &[u8], bench: Bench) -> io::Result<()> {
-    printing::text(rt, name)?;
-    printing::text(rt, b" moves")?;
+fn say_moved(rt: &impl Print, name: &str, bench: Bench) -> io::Result<()> {
+    print!(rt; "{name} moves")?;
     showing::moved(rt, heard(bench::fresh()), heard(bench))?;
     printing::end(rt)
 }
 
-fn single(rt: &impl Print, name: &[u8], word: u16) -> io::Result<()> {
-    let worded = steps::send(rt, bench::fresh(), word)?;
-    say_moved(rt, name, worded)
+fn single(rt: &impl Print, name: &str, word: u16) -> io::Result<()> {
+    say_moved(rt, name, steps::send(rt, bench::fresh(), word)?)
 }
 
-fn block(
-    rt: &impl Print,
-    name: &[u8],
-    head: u16,
-    first: u16,
-    second: u16,
-    end: u16,
-) -> io::Result<()> {
-    let ordered = steps::block(rt, bench::fresh(), head, first, second, end)?;
-    let spun = steps::spins(rt, ordered, 1)?;
-    say_moved(rt, name, spun)
+fn block(rt: &impl Print, name: &str, words: [u16; 4]) -> io::Result<()> {
+    let ordered = steps::block(rt, bench::fresh(), words)?;
+    say_moved(rt, name, steps::spins(rt, ordered, 1)?)
 }
 
-fn set(rt: &impl Print, name: &[u8], setting: PanelSetting) -> io::Result<()> {
+fn set(rt: &impl Print, name: &str, setting: PanelSetting) -> io::Result<()> {
     say_moved(rt, name, bench::set(bench::fresh(), setting))
 }
 
 fn singles(rt: &impl Print) -> io::Result<()> {
-    single(rt, b"relay on", 0x0802)?;
-    single(rt, b"parallel", 0x2B01)?;
-    single(rt, b"stop stepping", 0x2D01)?;
-    single(rt, b"stop limit 10", 0x290A)?;
-    single(rt, b"start stepping", 0x2C01)?;
-    single(rt, b"start limit 9", 0x2109)?;
-    single(rt, b"deflection stepping", 0x2201)?;
-    single(rt, b"deflection limit 11", 0x240B)?;
-    single(rt, b"IEL clock", 0x0C01)?;
-    single(rt, b"IEL enable", 0x0C02)?;
-    single(rt, b"head mask 5", 0x2605)?;
-    single(rt, b"a refused word", 0x0800)
+    single(rt, "relay on", 0x0802)?;
+    single(rt, "parallel", 0x2B01)?;
+    single(rt, "stop stepping", 0x2D01)?;
+    single(rt, "stop limit 10", 0x290A)?;
+    single(rt, "start stepping", 0x2C01)?;
+    single(rt, "start limit 9", 0x2109)?;
+    single(rt, "deflection stepping", 0x2201)?;
+    single(rt, "deflection limit 11", 0x240B)?;
+    single(rt, "IEL clock", 0x0C01)?;
+    single(rt, "IEL enable", 0x0C02)?;
+    single(rt, "head mask 5", 0x2605)?;
+    single(rt, "a refused word", 0x0800)
 }
 
 // With its spin a block also moves the last check and the counters; without one, the last check alone.
 fn blocks(rt: &impl Print) -> io::Result<()> {
-    block(rt, b"multiplexer 1", 0x6002, 0xA001, 0xA000, 0xE015)?;
-    block(rt, b"multiplexer 2", 0x6002, 0xA008, 0xA000, 0xE0A8)?;
-    block(rt, b"multiplexer 3", 0x6002, 0xA040, 0xA000, 0xE05B)?;
+    block(rt, "multiplexer 1", [0x6002, 0xA001, 0xA000, 0xE015])?;
+    block(rt, "multiplexer 2", [0x6002, 0xA008, 0xA000, 0xE0A8])?;
+    block(rt, "multiplexer 3", [0x6002, 0xA040, 0xA000, 0xE05B])?;
     block(
         rt,
-        b"direction window 3 to 19",
-        0x6302,
-        0xA303,
-        0xA313,
-        0xE346,
+        "direction window 3 to 19",
+        [0x6302, 0xA303, 0xA313, 0xE346],
     )?;
-    block(rt, b"energy window 5 to 9", 0x6402, 0xA405, 0xA409, 0xE47E)?;
-    let early = steps::block(rt, bench::fresh(), 0x6402, 0xA405, 0xA409, 0xE47E)?;
-    say_moved(rt, b"energy window 5 to 9 with no spin", early)
+    let energy = [0x6402, 0xA405, 0xA409, 0xE47E];
+    block(rt, "energy window 5 to 9", energy)?;
+    let early = steps::block(rt, bench::fresh(), energy)?;
+    say_moved(rt, "energy window 5 to 9 with no spin", early)
 }
 
 // The words that bring a supply up, and five spins; then the relay off, which brings level and target to 0.
-fn up(rt: &impl Print, name: &[u8], words: &[u16]) -> io::Result<()> {
+fn up(rt: &impl Print, name: &str, words: &[u16]) -> io::Result<()> {
     let aimed = steps::send_all(rt, bench::fresh(), words)?;
     let risen = steps::spins(rt, aimed, 5)?;
     say_moved(rt, name, risen)?;
-    let off = steps::send(rt, risen, 0x0820)?;
-    say_moved(rt, b"and then relay off", off)
+    say_moved(rt, "and then relay off", steps::send(rt, risen, 0x0820)?)
 }
 
-const STOP: [u16; 4] = [0x0802, 0x2D01, 0x290A, 0x2803];
-
-const START: [u16; 4] = [0x0802, 0x2C01, 0x2109, 0x2004];
-
-const DEFLECTION: [u16; 4] = [0x0802, 0x2201, 0x240B, 0x2305];
-
-const ALL: [u16; 10] = [
-    0x0802, 0x2D01, 0x2C01, 0x2201, 0x290A, 0x2109, 0x240B, 0x2803, 0x2004, 0x2305,
-];
-
 fn supplies(rt: &impl Print) -> io::Result<()> {
-    up(rt, b"stop at 3", &STOP)?;
-    up(rt, b"start at 4", &START)?;
-    up(rt, b"deflection at 5", &DEFLECTION)?;
-    up(rt, b"all three", &ALL)
+    up(rt, "stop at 3", &[0x0802, 0x2D01, 0x290A, 0x2803])?;
+    up(rt, "start at 4", &[0x0802, 0x2C01, 0x2109, 0x2004])?;
+    up(rt, "deflection at 5", &[0x0802, 0x2201, 0x240B, 0x2305])?;
+    let all = [
+        0x0802, 0x2D01, 0x2C01, 0x2201, 0x290A, 0x2109, 0x240B, 0x2803, 0x2004, 0x2305,
+    ];
+    up(rt, "all three", &all)
 }
 
 fn settings(rt: &impl Print) -> io::Result<()> {
-    set(rt, b"flap 1", PanelSetting::Flap1(true))?;
-    set(rt, b"flap 2", PanelSetting::Flap2(true))?;
-    set(rt, b"flap 3", PanelSetting::Flap3(true))?;
-    set(rt, b"bias 9Ah", PanelSetting::Bias(0x9A))?;
-    set(rt, b"ground 70h", PanelSetting::Ground(0x70))?;
-    set(rt, b"free time 1234h", PanelSetting::FreeTime(0x1234))
+    set(rt, "flap 1", PanelSetting::Flap1(true))?;
+    set(rt, "flap 2", PanelSetting::Flap2(true))?;
+    set(rt, "flap 3", PanelSetting::Flap3(true))?;
+    set(rt, "bias 9Ah", PanelSetting::Bias(0x9A))?;
+    set(rt, "ground 70h", PanelSetting::Ground(0x70))?;
+    set(rt, "free time 1234h", PanelSetting::FreeTime(0x1234))
 }
 
 fn main(rt: HostRuntime) -> io::Result<()> {
-    printing::text(
-        &rt,
-        b"each setting alone, seen after 35 whole slots; first a fresh rig\n",
-    )?;
-    let fresh = heard(bench::fresh());
-    showing::all(&rt, fresh)?;
+    println!(rt; "each setting alone, seen after 35 whole slots; first a fresh rig")?;
+    showing::all(&rt, heard(bench::fresh()))?;
     singles(&rt)?;
     supplies(&rt)?;
     blocks(&rt)?;
     settings(&rt)?;
-    let spun = steps::spins(&rt, bench::fresh(), 3)?;
-    say_moved(&rt, b"three spins", spun)
+    say_moved(&rt, "three spins", steps::spins(&rt, bench::fresh(), 3)?)
 }

@@ -4,7 +4,7 @@ use mathlib.Core.Path.{◌≡◌}
 use Prim.Native.Nat.{ℕ}
 use Rattle.base.proofs.Single.{same}
 use Rattle.supply.specs.declared.Supply.{Supply}
-use Rattle.supply.specs.declared.Change.{Change}
+use Rattle.supply.specs.Shapes.{Change}
 use Rattle.targeting.proofs.set_target.Reads as set-target
 use Rattle.targeting.proofs.set_limit.Reads as set-limit
 use Rattle.targeting.proofs.set_stepping.Reads as set-stepping

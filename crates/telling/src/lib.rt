@@ -7,11 +7,11 @@ use std::io;
 
 fn answer_told(rt: &impl Print, answer: Answer) -> io::Result<()> {
     match answer {
-        Answer::Accepted => printing::text(rt, b" accepted"),
-        Answer::Waiting => printing::text(rt, b" waiting"),
+        Answer::Accepted => rt.print(" accepted"),
+        Answer::Waiting => rt.print(" waiting"),
         Answer::Refused(why) => {
-            printing::text(rt, b" refused ")?;
-            printing::byte(rt, judge::number(why))
+            let number = judge::number(why);
+            print!(rt; " refused {number:02X}h")
         }
     }
 }
@@ -19,9 +19,9 @@ fn answer_told(rt: &impl Print, answer: Answer) -> io::Result<()> {
 fn reply_told(rt: &impl Print, reply: Reply) -> io::Result<()> {
     match reply {
         Reply::Plain(answer) => answer_told(rt, answer),
-        Reply::Swallowed => printing::text(rt, b" dropped 03h"),
+        Reply::Swallowed => rt.print(" dropped 03h"),
         Reply::Dropped(answer) => {
-            printing::text(rt, b" dropped 03h, then")?;
+            rt.print(" dropped 03h, then")?;
             answer_told(rt, answer)
         }
     }
@@ -29,18 +29,16 @@ fn reply_told(rt: &impl Print, reply: Reply) -> io::Result<()> {
 
 // A word, and what the rig answered.
 pub fn word(rt: &impl Print, word: u16, reply: Reply) -> io::Result<()> {
-    printing::text(rt, b"word ")?;
-    printing::word(rt, word)?;
+    print!(rt; "word {word:04X}")?;
     reply_told(rt, reply)?;
-    printing::end(rt)
+    rt.println("")
 }
 
 // So many spins.
 pub fn spins(rt: &impl Print, times: u32) -> io::Result<()> {
     if times == 1 {
-        printing::text(rt, b"one spin\n")
+        rt.println("one spin")
     } else {
-        printing::number(rt, u64::from(times))?;
-        printing::text(rt, b" spins\n")
+        println!(rt; "{times} spins")
     }
 }

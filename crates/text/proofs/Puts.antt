@@ -1,16 +1,17 @@
 -- The laws of `put` and `Puts`: two texts put one after the other are one text put; nothing put; and from the part that is lent to the whole.
 -- Assumes nothing.
-use mathlib.Core.Path.{◌≡◌, sym, ap, ◌∙◌}
-use mathlib.Core.List.{List, [], ◌++◌, append_assoc, append-nil}
-use Prim.Native.Nat.{ℕ, ◌+◌, ◌-◌, ◌≤◌}
-use native.Mathlib.Nat.{le_of_eq, add-zero, add_assoc}
+use mathlib.Core.Path.{◌≡◌, refl, sym, ap, ◌∙◌}
+use mathlib.Core.List.{List, [], ◌++◌, append_assoc}
+use Prim.Native.Nat.{ℕ, ◌+◌, ◌≤◌}
+use native.Mathlib.Nat.{add-zero, add_assoc}
 use native.Mathlib.Omega.{arith}
 use borrow.Author.Tests.{le-leb}
 use mathlib.Core.Bool.{true, false}
 use lib.Dec.{leb}
-use lib.ListN.{length, take, drop, length-append, length-drop, take-append-drop, drop_of_length-le}
-use lib.Seq.{take-append_seam, drop-append-add, length-take-le, take-length, drop-drop}
-use Rattle.text.specs.Page.{put, Puts, fitting}
+use lib.ListN.{length, take, drop, length-append, take-append-drop}
+use lib.Seq.{take-append_seam, drop-append-add, length-take-le, drop-drop}
+use Rattle.text.specs.declared.Page.{Page}
+use Rattle.text.specs.Page.{put, Puts, fitting, Gets, RoomFor, as_fits}
 
 -- after a list of n elements, a text at n goes behind it
 behind : (x y t : List ℕ) (n : ℕ) → length x ≡ n → take n (x ++ y) ++ (t ++ drop (n + length t) (x ++ y)) ≡ x ++ (t ++ drop (length t) y)
@@ -54,14 +55,22 @@ pub left_out : (most at : ℕ) (s p : List ℕ) → leb (at + most) (length p) �
 unfolding fitting
 left_out most at s p e = rw e (put_nil at p)
 
--- what a copy puts into the stretch of the page that is lent, which is as long as the text, said of the whole page
-back : (a n : ℕ) → a + n - a ≡ n
-back a n = omega arith
+-- the same of a page: two texts, one after the other, and a text that has room
+pub gets_both : {s t : List ℕ} {p q r : Page} → Gets s p q → Gets t q r → RoomFor (length s) p → Gets (s ++ t) p r
+gets_both h k room =
+    record { same_page = k.same_page ∙ h.same_page; long = k.long ∙ h.long; puts = chain h.puts k.puts room }
 
-pub placed : (at : ℕ) (s p : List ℕ) → at + length s ≤ length p
-    → take at p ++ ((take (length s) s ++ drop (length s) (take (at + length s - at) (drop at p))) ++ drop (at + length s - at) (drop at p)) ≡ put at s p
-placed at s p room =
-    let x = take (length s) (drop at p) in
-    let n : length x ≡ length s = length-take-le (length s) (drop at p) (simp length-drop (omega (arith, room))) in
-    rw (back at (length s), take-length s)
-    (rw (drop_of_length-le x {i = length s} (le_of_eq n)) (simp (append-nil, drop-drop)))
+pub gets_all : (most : ℕ) {s : List ℕ} {p q : Page} → RoomFor most p → Gets (as_fits most p s) p q → Gets s p q
+gets_all most {p = p} room h = record { same_page = h.same_page; long = h.long; puts = fits most p.at room h.puts }
+
+pub gets_none : (p : Page) → Gets [] p p
+gets_none p = record { same_page = refl; long = refl; puts = put_nil p.at p.bytes.now }
+
+-- two texts put one after the other on a page that has room for both
+pub gets_two : (s t : List ℕ) {p q r : Page} → Gets (as_fits (length s) p s) p q → Gets (as_fits (length t) q t) q r
+    → RoomFor (length s + length t) p → Gets (s ++ t) p r
+gets_two s t {p} {q} h k room =
+    let a : RoomFor (length s) p = omega arith in
+    let m = gets_all (length s) {s = s} {p = p} a h in
+    let e = m.puts.place in
+    gets_both m (gets_all (length t) (omega (arith, m.long)) k) a

@@ -4,17 +4,15 @@
 
 ghost use Rattle.std.specs.Prelude.{◌≡◌, ◌+◌, ◌≤◌, ◌<◌, length};
 ghost use Rattle.text.specs.Digits.{digit, hex_byte, hex_word};
-ghost use Rattle.text.specs.Page.{Puts, fitting};
+ghost use Rattle.text.specs.Page.{Gets, RoomFor, as_fits};
 
+// std's `from_digit` gives small letters.
 #[tactic(auto, unfolding(crate::specs::Digits::digit))]
 fn digit_of(d: u8) -> u8
     requires { d < 16 }
     ensures { result ≡ digit d }
 {
-    if d < 10 {
-        return b'0' + d;
-    }
-    b'A' + (d - 10)
+    if d < 10 { b'0' + d } else { b'A' + (d - 10) }
 }
 
 // A byte as two hex digits.
@@ -28,28 +26,38 @@ pub fn hex(b: u8) -> [u8; 2]
 pub fn hex_word(word: u16) -> [u8; 4]
     ensures { result ≡ hex_word word }
 {
-    let high = hex((word / 256) as u8);
-    let low = hex((word % 256) as u8);
-    [high[0], high[1], low[0], low[1]]
+    let [high, low] = word.to_be_bytes();
+    let [a, b] = hex(high);
+    let [c, d] = hex(low);
+    [a, b, c, d]
 }
 
-// It is lent just the stretch that the text takes, so that the copy knows its length.
-fn put_in(text: &[u8], page: &mut [u8], at: usize) -> usize
-    requires { at + length text.now ≤ length page.old }
-    ensures { Puts at text.now page.old result page.new }
-{
-    let next = at + text.len();
-    page[at..next].copy_from_slice(text);
-    next
+// A page that the caller lends, and the place on it where the next text goes.
+#[derive(Drop)]
+pub struct Page<'a> {
+    pub bytes: &'a mut [u8],
+    pub at: usize,
 }
 
-// A text into the page at a place; answers the place after it. Where the page has no room for it, nothing is put.
-#[tactic(auto, using(crate::proofs::Puts::put_nil), unfolding(crate::specs::Page::fitting))]
-pub fn put(text: &[u8], page: &mut [u8], at: usize) -> usize
-    ensures { Puts at (fitting (length text.now) at page.old text.now) page.old result page.new }
-{
-    if base::has_room(at, text.len(), page.len()) {
-        return put_in(text, page, at);
+impl<'a> Page<'a> {
+    // It is lent just the stretch that the text takes, so that the copy knows its length.
+    fn put_in(&mut self, text: &[u8])
+        requires { RoomFor (length text.now) self.old }
+        ensures { Gets text.now self.old self.new }
+    {
+        let at = self.at;
+        let next = at + text.len();
+        self.bytes[at..next].copy_from_slice(text);
+        self.at = next;
     }
-    at
+
+    // A text at the place, which moves behind it. Where the page has no room for the text, nothing is put.
+    #[tactic(auto, using(crate::proofs::Puts::put_nil), unfolding(crate::specs::Page::fitting))]
+    pub fn put(&mut self, text: &[u8])
+        ensures { Gets (as_fits (length text.now) self.old text.now) self.old self.new }
+    {
+        if base::has_room(self.at, text.len(), self.bytes.len()) {
+            self.put_in(text);
+        }
+    }
 }

@@ -44,13 +44,13 @@ fn pending_way(p: Pending, kind: Kind, high: u8) -> Way
     }
 }
 
-// What a word does.
+// What a word does. With no block pending it is judged afresh.
 #[tactic(auto, unfolding(rig::specs::Ways::way_of))]
-pub fn way_of(p: Pending, kind: Kind, high: u8) -> Way
-    ensures { result ≡ way_of p kind high }
+pub fn way_of(pending: Option<Pending>, kind: Kind, high: u8) -> Way
+    ensures { result ≡ way_of pending kind high }
 {
-    if p.waiting {
-        return pending_way(p, kind, high);
+    match pending {
+        Some(p) => pending_way(p, kind, high),
+        None => Way::Afresh,
     }
-    Way::Afresh
 }

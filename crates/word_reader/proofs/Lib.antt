@@ -1,3 +1,2 @@
--- What words mean by their number, and single outcome.
-pub mod Counts
+-- Single outcome.
 pub mod Single

@@ -5,7 +5,7 @@ use contract.Lifetimes.{Lfts}
 use denote.Triple.Clauses.{AtExit}
 use borrow.Fn.Kinds.{Dens, ended_of}
 use Rattle.base.proofs.Single.{same}
-use Rattle.wording.specs.declared.Meant.{Meant}
+use Rattle.wording.specs.Shapes.{Meant}
 use Rattle.word_reader.proofs.read.Kinds.{ps, r}
 use Rattle.word_reader.proofs.read.Reads as read
 

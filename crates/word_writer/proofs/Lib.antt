@@ -1,3 +1,2 @@
--- Words at the front of a buffer, and single outcome.
-pub mod Front
+-- Single outcome.
 pub mod Single

@@ -5,7 +5,7 @@ use contract.Lifetimes.{Lfts}
 use denote.Triple.Clauses.{AtExit}
 use borrow.Fn.Kinds.{Dens, ended_of}
 use Rattle.base.proofs.Single.{same}
-use Rattle.wording.specs.declared.Wrote.{Wrote}
+use Rattle.wording.specs.Shapes.{Wrote}
 use Rattle.word_writer.proofs.write.Kinds.{ps, r}
 use Rattle.word_writer.proofs.write.Reads as write
 

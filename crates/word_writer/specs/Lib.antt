@@ -1,2 +1,2 @@
--- What a command's words hold.
-pub mod Forms
+-- The code of a supply.
+pub mod Codes

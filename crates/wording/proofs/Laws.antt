@@ -1,7 +1,10 @@
 -- The laws of writing and reading (specs/Laws `WordingLaws`). What a mask leaves of a byte is computed for the 256 bytes.
 -- Assumes nothing.
+use Rattle.std.specs.Prelude.{Ok, Err}
+use Rattle.std.proofs.Math.Bool.{and-false}
+use Rattle.std.proofs.lemmas.Bool.{and_parts}
 use mathlib.Core.Path.{◌≡◌, refl, sym, ap, ◌∙◌, subst}
-use mathlib.Core.Bool.{Bool, true, false, ◌&&◌, true≢false}
+use mathlib.Core.Bool.{Bool, true, false, ◌&&◌}
 use mathlib.Core.Logic.{◌⊎◌, inl, inr}
 use mathlib.Core.List.{List, [], ◌∷◌, ◌++◌}
 use Prim.Native.Nat.{ℕ, ◌+◌, ◌*◌, ◌/◌, ◌%◌, ◌^◌, ◌≤◌, ◌<◌}
@@ -21,9 +24,7 @@ use Rattle.wording.specs.declared.Command.{Command}
 use Rattle.wording.specs.declared.Command.TheVariants.{Relay, Iel, HeadMask, Target, Limit, Mode, Stepping, Multiplexers, DirectionWindow, EnergyWindow}
 use Rattle.wording.specs.declared.Refusal.{Refusal}
 use Rattle.wording.specs.declared.Refusal.TheVariants.{TooWide, NoRoom, NotOne}
-use Rattle.wording.specs.declared.Wrote.TheVariants as wrote
-use Rattle.wording.specs.declared.Meant.{Meant}
-use Rattle.wording.specs.declared.Meant.TheVariants.{Is, Refused}
+use Rattle.wording.specs.Shapes.{Meant}
 use Rattle.wording.specs.Written.{settings, all_fit, fits, single_word, head_word, data_word, end_word, single, block, words_of, wrote_of, written_of}
 use Rattle.wording.specs.Meaning.{single_meant, block_meant, is_block, four_meant, read_of, cleaned}
 use Rattle.wording.specs.Laws.{word, OneOf, OneSingle, alone, OneBlock, whole, Wide, WordingLaws}
@@ -53,26 +54,26 @@ module _ (code a b : ℕ) (code64 : code < 64) (la : a < 256) (lb : b < 256) whe
       rw is_block_lem (rw (c, ea, eb))
 
 -- a supply's singles, by their low byte
-meant : (x : Which) (low : ℕ) → (single_meant (target_code x) low ≡ Is (Target x (low % 16)))
-    × (single_meant (limit_code x) low ≡ Is (Limit x (low % 16))) × (single_meant (stepping_code x) low ≡ Is (Stepping x low))
+meant : (x : Which) (low : ℕ) → (single_meant (target_code x) low ≡ Ok (Target x (low % 16)))
+    × (single_meant (limit_code x) low ≡ Ok (Limit x (low % 16))) × (single_meant (stepping_code x) low ≡ Ok (Stepping x low))
 unfolding single_meant
 meant Stop low = (refl, refl, refl)
 meant Start low = (refl, refl, refl)
 meant Deflection low = (refl, refl, refl)
 
-back : (c : Command) → fits c ≡ true → read_of (words_of c) ≡ Is c
+back : (c : Command) → fits c ≡ true → read_of (words_of c) ≡ Ok c
 unfolding single_meant block_meant
-back (Relay on off) f = let h = fits_two on 2 off 2 f in two_bits (λ x y. read_of (words_of (Relay x y)) ≡ Is (Relay x y)) refl refl refl refl on off h.0 h.1
-back (Iel clock enable) f = let h = fits_two clock 2 enable 2 f in two_bits (λ x y. read_of (words_of (Iel x y)) ≡ Is (Iel x y)) refl refl refl refl clock enable h.0 h.1
+back (Relay on off) f = let h = fits_two on 2 off 2 f in two_bits (λ x y. read_of (words_of (Relay x y)) ≡ Ok (Relay x y)) refl refl refl refl on off h.0 h.1
+back (Iel clock enable) f = let h = fits_two clock 2 enable 2 f in two_bits (λ x y. read_of (words_of (Iel x y)) ≡ Ok (Iel x y)) refl refl refl refl clock enable h.0 h.1
 back (HeadMask mask) f = let h = fits_one mask 8 f in let e : mask % 8 ≡ mask = omega arith in read_single 0x26 mask (omega arith) ∙ rw e
 back (Target x target) f =
     let h = fits_one target 16 f in
     let e : target % 16 ≡ target = omega arith in
-    read_single (target_code x) target (omega arith) ∙ (meant x target).0 ∙ ap (λ (t : ℕ). Is (Target x t)) e
+    read_single (target_code x) target (omega arith) ∙ (meant x target).0 ∙ ap (λ (t : ℕ). Ok (Target x t)) e
 back (Limit x limit) f =
     let h = fits_one limit 16 f in
     let e : limit % 16 ≡ limit = omega arith in
-    read_single (limit_code x) limit (omega arith) ∙ (meant x limit).1 ∙ ap (λ (t : ℕ). Is (Limit x t)) e
+    read_single (limit_code x) limit (omega arith) ∙ (meant x limit).1 ∙ ap (λ (t : ℕ). Ok (Limit x t)) e
 back (Mode low) f = read_single 0x2B low (fits_one low 256 f)
 back (Stepping x low) f = read_single (stepping_code x) low (fits_one low 256 f) ∙ (meant x low).2
 back (Multiplexers byte bit) f =
@@ -92,8 +93,8 @@ back (EnergyWindow start stop) f =
 
 -- what is true of words by what they mean
 abbrev Good : List ℕ → Meant → Type 0
-Good ws (Is c) = (words_of c ≡ cleaned ws) × (fits c ≡ true) × (OneSingle ws ⊎ OneBlock ws)
-Good ws (Refused why) = why ≡ NotOne
+Good ws (Ok c) = (words_of c ≡ cleaned ws) × (fits c ≡ true) × (OneSingle ws ⊎ OneBlock ws)
+Good ws (Err why) = why ≡ NotOne
 
 by_pick : (P : Meant → Type 0) (t : Bool) {x y : Meant} → (t ≡ true → P x) → (t ≡ false → P y) → P (pick t x y)
 by_pick P true f g = f refl
@@ -112,7 +113,7 @@ fit_two a m b n h k = rw (lt-ltb a m h, lt-ltb b n k)
 -- a single of a listed code, read as c
 module _ (w code : ℕ) (c : Command) (f : ℕ → ℕ) (listed : OneOf singles code) (words : words_of c ≡ single code (f (w % 256)))
     (t : T (all_below (λ x. eqb (f x) (bit_and x (named_bits code))) 0x100)) (fit : fits c ≡ true) where
-  good_single : eqb (w / 256) code ≡ true → Good (w ∷ []) (Is c)
+  good_single : eqb (w / 256) code ≡ true → Good (w ∷ []) (Ok c)
   good_single e =
       let h : w / 256 ≡ code = eqb-true (w / 256) code e in
       let m = masked f (named_bits code) t (w % 256) (omega arith) in
@@ -157,11 +158,7 @@ read_one w =
 
 -- four tests that all pass
 four : (p q s t : Bool) → (p && q && s && t) ≡ true → (p ≡ true) × (q ≡ true) × (s ≡ true) × (t ≡ true)
-four true true true true e = (refl, refl, refl, refl)
-four true true true false e = absurd (true≢false (sym e))
-four true true false t e = absurd (true≢false (sym e))
-four true false s t e = absurd (true≢false (sym e))
-four false q s t e = absurd (true≢false (sym e))
+four p q s t e = let a = and_parts (p && q && s) t e in let b = and_parts (p && q) s a.0 in let c = and_parts p q b.0 in (c.0, c.1, b.1, a.1)
 
 -- four words that are a block, of a listed code, read as c
 module _ (head a b end : ℕ) (is : is_block head a b end ≡ true) where
@@ -193,7 +190,7 @@ module _ (head a b end : ℕ) (is : is_block head a b end ≡ true) where
   -- the block of the listed code k, read as c
   module _ (k : ℕ) (c : Command) (f g : ℕ → ℕ) (listed : OneOf blocks k) (words : words_of c ≡ block k (f first) (g second))
       (tf : T (all_below (λ x. eqb (f x) (bit_and x (named_bits2 k).0)) 0x100)) (tg : T (all_below (λ x. eqb (g x) (bit_and x (named_bits2 k).1)) 0x100)) (fit : fits c ≡ true) where
-    good-block : eqb code k ≡ true → Good (head ∷ a ∷ b ∷ end ∷ []) (Is c)
+    good-block : eqb code k ≡ true → Good (head ∷ a ∷ b ∷ end ∷ []) (Ok c)
     good-block e =
         let h : code ≡ k = eqb-true code k e in
         let m = masked f (named_bits2 k).0 tf first (omega arith) in
@@ -234,23 +231,23 @@ good (a ∷ b ∷ c ∷ []) = refl
 good (head ∷ a ∷ b ∷ end ∷ []) = read_four head a b end
 good (a ∷ b ∷ c ∷ d ∷ e ∷ ws) = refl
 
-again : (ws : List ℕ) (c : Command) → read_of ws ≡ Is c → (words_of c ≡ cleaned ws) × (fits c ≡ true)
+again : (ws : List ℕ) (c : Command) → read_of ws ≡ Ok c → (words_of c ≡ cleaned ws) × (fits c ≡ true)
 again ws c e = let g = subst (Good ws) e (good ws) in (g.0, g.1)
 
-no_other : (ws : List ℕ) (why : Refusal) → read_of ws ≡ Refused why → why ≡ NotOne
+no_other : (ws : List ℕ) (why : Refusal) → read_of ws ≡ Err why → why ≡ NotOne
 no_other ws why e = subst (Good ws) e (good ws)
 
-is_none : (ws : List ℕ) → (OneSingle ws → ⊥) → (OneBlock ws → ⊥) → read_of ws ≡ Refused NotOne
+is_none : (ws : List ℕ) → (OneSingle ws → ⊥) → (OneBlock ws → ⊥) → read_of ws ≡ Err NotOne
 is_none ws s b = none (read_of ws) refl (good ws)
   where
-    none : (m : Meant) → read_of ws ≡ m → Good ws m → read_of ws ≡ Refused NotOne
-    none (Is c) e g = absurd (elim g.2 [ inl x ↦ s x | inr y ↦ b y ])
-    none (Refused why) e g = e ∙ ap Refused g
+    none : (m : Meant) → read_of ws ≡ m → Good ws m → read_of ws ≡ Err NotOne
+    none (Ok c) e g = absurd (elim g.2 [ inl x ↦ s x | inr y ↦ b y ])
+    none (Err why) e g = e ∙ ap Err g
 
 -- words that are one single or one block are read
 abbrev Read : Meant → Type 0
-Read (Is c) = Unit {0}
-Read (Refused why) = ⊥
+Read (Ok c) = Unit {0}
+Read (Err why) = ⊥
 
 single_code : (code low : ℕ) → OneOf singles code → Read (single_meant code low)
 unfolding single_meant
@@ -291,7 +288,7 @@ reads_block ws (whole k a b listed la lb) =
     let e4 : word 3 k c ≡ end_word k c = omega arith in
     rw (e1, e2, e3, e4) (subst Read (sym (read_block k a b h.0 la lb)) h.1)
 
-not_one : (ws : List ℕ) → read_of ws ≡ Refused NotOne → (OneSingle ws → ⊥) × (OneBlock ws → ⊥)
+not_one : (ws : List ℕ) → read_of ws ≡ Err NotOne → (OneSingle ws → ⊥) × (OneBlock ws → ⊥)
 not_one ws e = (λ s. subst Read e (reads_single ws s), λ b. subst Read e (reads_block ws b))
 
 -- a setting too wide, and none
@@ -299,10 +296,6 @@ not_all : (ss : List (ℕ × ℕ)) → Wide ss → all_fit ss ≡ false
 not_all [] w = absurd w
 not_all (s ∷ ss) (inl h) = rw (le-ltb s.0 (2 ^ s.1) h)
 not_all (s ∷ ss) (inr w) = rw (not_all ss w) (and-false (ltb s.0 (2 ^ s.1)))
-  where
-    and-false : (b : Bool) → (b && false) ≡ false
-    and-false true = refl
-    and-false false = refl
 
 all_fit_lem : (ss : List (ℕ × ℕ)) → (Wide ss → ⊥) → all_fit ss ≡ true
 all_fit_lem [] n = refl
@@ -310,12 +303,12 @@ all_fit_lem (s ∷ ss) n =
     split (ltb s.0 (2 ^ s.1)) (λ e. rw (e, all_fit_lem ss (λ w. n (inr w))))
     (λ e. absurd (n (inl (ltb-false s.0 (2 ^ s.1) e))))
 
-wide : (c : Command) (out : List ℕ) → Wide (settings c) → (wrote_of c (length out) ≡ wrote.Refused TooWide) × (written_of c out ≡ out)
+wide : (c : Command) (out : List ℕ) → Wide (settings c) → (wrote_of c (length out) ≡ Err TooWide) × (written_of c out ≡ out)
 unfolding wrote_of written_of
 wide c out w = let e = not_all (settings c) w in (rw e, rw e)
 
 room : (c : Command) (out : List ℕ) → (Wide (settings c) → ⊥) → length out < length (words_of c)
-    → (wrote_of c (length out) ≡ wrote.Refused NoRoom) × (written_of c out ≡ out)
+    → (wrote_of c (length out) ≡ Err NoRoom) × (written_of c out ≡ out)
 unfolding wrote_of written_of
 room c out n h =
     let e = all_fit_lem (settings c) n in
@@ -323,7 +316,7 @@ room c out n h =
     (rw (e, f), rw (e, f))
 
 written : (c : Command) (out : List ℕ) → (Wide (settings c) → ⊥) → length (words_of c) ≤ length out
-    → (wrote_of c (length out) ≡ wrote.Words (length (words_of c))) × (written_of c out ≡ words_of c ++ drop (length (words_of c)) out)
+    → (wrote_of c (length out) ≡ Ok (length (words_of c))) × (written_of c out ≡ words_of c ++ drop (length (words_of c)) out)
 unfolding wrote_of written_of
 written c out n h =
     let e = all_fit_lem (settings c) n in

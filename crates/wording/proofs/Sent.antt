@@ -1,7 +1,9 @@
 -- What is written, sent to a rig with nothing pending, reaches the judgement of its settings (specs/Laws `Sends`).
 -- Assumes nothing.
+use Rattle.std.specs.Prelude.{Some}
+use Rattle.std.proofs.lemmas.Bool.{and_parts}
 use mathlib.Core.Path.{◌≡◌, refl, sym, ap, ◌∙◌}
-use mathlib.Core.Bool.{Bool, true, false, ◌&&◌, true≢false}
+use mathlib.Core.Bool.{Bool, true, false, ◌&&◌}
 use mathlib.Core.List.{[], ◌∷◌}
 use Prim.Native.Nat.{ℕ, zero, suc, ◌+◌, ◌*◌, ◌/◌, ◌%◌, ◌<◌}
 use native.Mathlib.Omega.{arith}
@@ -11,11 +13,11 @@ use Rattle.base.specs.Pick.{pick}
 use Rattle.crc.specs.Crc.{crc_from, crc_of}
 use Rattle.crc.proofs.Laws.{laws as crc-laws}
 use Rattle.supply.specs.Rules.{relay_of, targeted, limited, switched}
-use Rattle.supply.specs.declared.Change.{Change}
+use Rattle.supply.specs.Shapes.{Change}
 use Rattle.judge.specs.declared.Which.{Which}
 use Rattle.judge.specs.declared.Which.TheVariants.{Stop, Start, Deflection}
 use Rattle.judge.specs.declared.Core.{Core}
-use Rattle.judge.specs.declared.Verdict.{Verdict}
+use Rattle.judge.specs.Shapes.{Verdict}
 use Rattle.judge.specs.Commands.{carried, mode_cmd, single_of, counted_of, block_of}
 use Rattle.judge.specs.Table.{target_code, limit_code, stepping_code}
 use Rattle.judge.proofs.Table.{laws as table}
@@ -25,17 +27,11 @@ use Rattle.rig.specs.declared.Answer.TheVariants.{Waiting}
 use Rattle.rig.specs.declared.Reply.TheVariants.{Plain}
 use Rattle.rig.specs.declared.Taken.{Taken}
 use Rattle.rig.specs.Records.{with_pending}
-use Rattle.rig.specs.Words.{high_of, low_of, kind_of, code_of, new_block, one_more, settled_of, head_of, fresh_of, verdict_of, closed_of, pending_of, take_of}
+use Rattle.rig.specs.Words.{nothing_pending, high_of, low_of, kind_of, code_of, new_block, one_more, settled_of, head_of, fresh_of, verdict_of, closed_of, pending_of, take_with, take_of}
 use Rattle.wording.specs.declared.Command.TheVariants.{Relay, Iel, HeadMask, Target, Limit, Mode, Stepping, Multiplexers, DirectionWindow, EnergyWindow}
 use Rattle.wording.specs.Written.{single_word, head_word, data_word, end_word, block}
 use Rattle.wording.specs.Judged.{judged_of}
 use Rattle.wording.specs.Laws.{replies_to, rig_after, closed_with, Sends}
-
--- both tests of two
-pub both : (a b : Bool) → (a && b) ≡ true → (a ≡ true) × (b ≡ true)
-both true true e = (refl, refl)
-both true false e = absurd (true≢false (sym e))
-both false b e = absurd (true≢false (sym e))
 
 -- the words of a code below 64 with a byte, of each kind
 module _ (code b : ℕ) (code64 : code < 64) (byte : b < 256) where
@@ -94,43 +90,40 @@ module _ (code : ℕ) (code64 : code < 64) where
   end_code = omega arith
 
 -- a rig with nothing pending takes a single, and the head of a block of two
-module _ (r : Rig) (idle : r.pending.waiting ≡ false) (code : ℕ) (code64 : code < 64) where
+module _ (r : Rig) (idle : r.pending ≡ nothing_pending) (code : ℕ) (code64 : code < 64) where
   single_sent : (low : ℕ) → low < 256 → take_of r (single_word code low) ≡ settled_of r code (single_of r.core code low)
-  unfolding take_of fresh_of
+  unfolding take_of take_with fresh_of
   single_sent low h = rw (idle, single_high code low code64 h, single_low code low code64 h, single_kind code code64, single_code code code64)
 
   abbrev begun : Rig
-  begun = with_pending r (new_block (0x40 + code) 2)
-
-  abbrev after : Taken → Type 0
-  after t = t.reply ≡ Plain Waiting
+  begun = with_pending r (Some (new_block (0x40 + code) 2))
 
   head_sent : take_of r (head_word code 2) ≡ record { rig = begun; reply = Plain Waiting }
-  unfolding take_of fresh_of head_of
+  unfolding take_of take_with fresh_of head_of
   head_sent = rw (idle, head_high code 2 code64 (omega arith), head_low code 2 code64 (omega arith), head_kind code code64)
 
   abbrev one : ℕ → Rig
-  one a = with_pending r (one_more (new_block (0x40 + code) 2) a)
+  one a = with_pending r (Some (one_more (new_block (0x40 + code) 2) a))
 
   abbrev two : ℕ → ℕ → Rig
-  two a b = with_pending r (one_more (one_more (new_block (0x40 + code) 2) a) b)
+  two a b = with_pending r (Some (one_more (one_more (new_block (0x40 + code) 2) a) b))
 
   same_code_lem : (high : ℕ) → code_of high ≡ code → eqb (code_of high) (code_of (0x40 + code)) ≡ true
   same_code_lem high e = eq-eqb (code_of high) (code_of (0x40 + code)) (e ∙ sym (head_code code code64))
 
   first_sent : (a : ℕ) → a < 256 → take_of begun (data_word code a) ≡ record { rig = one a; reply = Plain Waiting }
-  unfolding take_of pending_of
+  unfolding take_of take_with pending_of
   first_sent a h =
       rw (data_high code a code64 h, data_low code a code64 h, data_kind code code64, same_code_lem (0x80 + code) (data_code code code64))
 
   second_sent : (a b : ℕ) → b < 256 → take_of (one a) (data_word code b) ≡ record { rig = two a b; reply = Plain Waiting }
-  unfolding take_of pending_of
+  unfolding take_of take_with pending_of
   second_sent a b h =
       rw (data_high code b code64 h, data_low code b code64 h, data_kind code code64, same_code_lem (0x80 + code) (data_code code code64))
 
   end_sent : (a b k : ℕ) → k < 256 → k ≡ crc_of (a ∷ b ∷ [])
       → take_of (two a b) (end_word code k) ≡ settled_of (closed_with r a b) (0x40 + code) (block_of r.core code 2 a b)
-  unfolding take_of pending_of closed_of verdict_of crc_of crc_from
+  unfolding take_of take_with pending_of closed_of verdict_of crc_of crc_from
   end_sent a b k h e =
       rw (end_high code k code64 h, end_low code k code64 h, end_kind code code64, same_code_lem (0xC0 + code) (end_code code code64), eq-eqb k (crc_of (a ∷ b ∷ [])) e, head_code code code64)
 
@@ -198,7 +191,7 @@ module _ (c : Core) where
   energy_judged start stop h k = let e : start % 32 ≡ start = omega arith in let f : stop % 32 ≡ stop = omega arith in rw (e, f)
 
 -- a single that is judged as the settings are
-sent_single : (r : Rig) (code low : ℕ) (v : Verdict) → r.pending.waiting ≡ false → code < 64 → low < 256 → single_of r.core code low ≡ v
+sent_single : (r : Rig) (code low : ℕ) (v : Verdict) → r.pending ≡ nothing_pending → code < 64 → low < 256 → single_of r.core code low ≡ v
     → let done = settled_of r code v in
     (replies_to take_of r (single_word code low ∷ []) ≡ done.reply ∷ []) × (rig_after take_of r (single_word code low ∷ []) ≡ done.rig)
 sent_single r code low v idle h l e =
@@ -226,7 +219,7 @@ unfolding crc_of
 check_fits a b la lb = crc-laws.fits 0 (a ∷ b ∷ []) (omega arith) (la, (lb, tt))
 
 -- a block that is judged as the settings are
-sent_block : (r : Rig) (code a b : ℕ) (v : Verdict) → r.pending.waiting ≡ false → code < 64 → a < 256 → b < 256 → block_of r.core code 2 a b ≡ v
+sent_block : (r : Rig) (code a b : ℕ) (v : Verdict) → r.pending ≡ nothing_pending → code < 64 → a < 256 → b < 256 → block_of r.core code 2 a b ≡ v
     → let done = settled_of (closed_with r a b) (0x40 + code) v in
     (replies_to take_of r (block code a b) ≡ Plain Waiting ∷ Plain Waiting ∷ Plain Waiting ∷ done.reply ∷ [])
     × (rig_after take_of r (block code a b) ≡ done.rig)
@@ -239,10 +232,10 @@ sent_block r code a b v idle h la lb e =
 
 -- the settings of a command that fits are below their bounds
 pub fits_one : (a n : ℕ) → (ltb a n && true) ≡ true → a < n
-fits_one a n e = ltb-true a n (both (ltb a n) true e).0
+fits_one a n e = ltb-true a n (and_parts (ltb a n) true e).0
 
 pub fits_two : (a m b n : ℕ) → (ltb a m && (ltb b n && true)) ≡ true → (a < m) × (b < n)
-fits_two a m b n e = let h = both (ltb a m) (ltb b n && true) e in (ltb-true a m h.0, fits_one b n h.1)
+fits_two a m b n e = let h = and_parts (ltb a m) (ltb b n && true) e in (ltb-true a m h.0, fits_one b n h.1)
 
 pub sends : Sends take_of
 sends r (Relay on off) i f =

@@ -1,13 +1,12 @@
 -- What the settings of a command come to by 01's table ("Command words"; 02 (iv), start and deflection as stop): said of the settings, with no low byte
 -- and no bit in it; x is the supply that the command is for.
 -- Assumes nothing.
-use Rattle.std.specs.Prelude.{ℕ, min, Bool, true, false, not, ◌&&◌, eqb, ltb}
+use Rattle.std.specs.Prelude.{ℕ, min, Bool, true, false, not, ◌&&◌, eqb, ltb, Ok, Err}
 use Rattle.base.specs.Pick.{pick}
 use Rattle.judge.specs.declared.Which.{Which}
 use Rattle.judge.specs.declared.Core.{Core}
 use Rattle.judge.specs.declared.Sensor.{Sensor}
-use Rattle.judge.specs.declared.Verdict.{Verdict}
-use Rattle.judge.specs.declared.Verdict.TheVariants.{Apply, Deny}
+use Rattle.judge.specs.Shapes.{Verdict}
 use Rattle.judge.specs.declared.Refusal.TheVariants.{RelayOff, Disabled, OverLimit, RelayBits, Unsettled, OutOfRange}
 use Rattle.judge.specs.Records.{supply_at, with_supply, with_settings, with_parallel, with_mask, with_iel, with_sensor, with_mux, with_direction, with_energy}
 use Rattle.supply.specs.When.{relay_set}
@@ -26,39 +25,39 @@ relay_told c on =
 
 abbrev pub relay_judged : Core → Bool → Bool → Verdict
 relay_judged c on off =
-    pick (on && not off) (Apply (relay_told c true)) (
-    pick (off && not on) (Apply (relay_told c false)) (
-    Deny RelayBits))
+    pick (on && not off) (Ok (relay_told c true)) (
+    pick (off && not on) (Ok (relay_told c false)) (
+    Err RelayBits))
 
 -- 28h, 20h, 23h: relay off 04h, stepping disabled 05h, target > limit 06h
 abbrev pub target_judged : Core → Which → ℕ → Verdict
 target_judged c x target =
     let s = supply_at c x in
-    pick (not s.relay) (Deny RelayOff) (
-    pick (not s.stepping) (Deny Disabled) (
-    pick (ltb s.limit target) (Deny OverLimit) (
-    Apply (with_supply c x (with_target s target)))))
+    pick (not s.relay) (Err RelayOff) (
+    pick (not s.stepping) (Err Disabled) (
+    pick (ltb s.limit target) (Err OverLimit) (
+    Ok (with_supply c x (with_target s target)))))
 
 -- 29h, 21h, 24h: level ≠ target 0Ch, limit > 15 0Dh; the target becomes the smaller of target and limit
 abbrev pub limit_judged : Core → Which → ℕ → Verdict
 limit_judged c x limit =
     let s = supply_at c x in
-    pick (not (eqb s.level s.target)) (Deny Unsettled) (
-    pick (ltb 15 limit) (Deny OutOfRange) (
-    Apply (with_supply c x (with_target (with_limit s limit) (min s.target limit)))))
+    pick (not (eqb s.level s.target)) (Err Unsettled) (
+    pick (ltb 15 limit) (Err OutOfRange) (
+    Ok (with_supply c x (with_target (with_limit s limit) (min s.target limit)))))
 
 -- 2Bh, and 2Dh, 2Ch, 22h: 0 is off, 1 is on; other 0Dh
 abbrev pub switch_judged : ℕ → (Bool → Core) → Verdict
-switch_judged low to = pick (eqb low 0) (Apply (to false)) (pick (eqb low 1) (Apply (to true)) (Deny OutOfRange))
+switch_judged low to = pick (eqb low 0) (Ok (to false)) (pick (eqb low 1) (Ok (to true)) (Err OutOfRange))
 
 -- the three blocks: what the sensor is told
 abbrev pub sensor_judged : Core → Sensor → Verdict
-sensor_judged c x = Apply (with_settings c (with_sensor c.settings x))
+sensor_judged c x = Ok (with_settings c (with_sensor c.settings x))
 
 abbrev pub judged_of : Core → Command → Verdict
 judged_of c (Relay on off) = relay_judged c (set on) (set off)
-judged_of c (Iel clock enable) = Apply (with_settings c (with_iel c.settings (record { clock = set clock; enable = set enable })))
-judged_of c (HeadMask mask) = Apply (with_settings c (with_mask c.settings mask))
+judged_of c (Iel clock enable) = Ok (with_settings c (with_iel c.settings (record { clock = set clock; enable = set enable })))
+judged_of c (HeadMask mask) = Ok (with_settings c (with_mask c.settings mask))
 judged_of c (Target x target) = target_judged c x target
 judged_of c (Limit x limit) = limit_judged c x limit
 judged_of c (Mode low) = switch_judged low (λ on. with_settings c (with_parallel c.settings on))

@@ -1,6 +1,6 @@
 -- What the class relies on (02 (i)): what is written reaches the judgement of its settings; written and read give each other back; when each refusal comes.
 -- The records are proved in proofs/Sent.antt and proofs/Laws.antt. Assumes nothing.
-use Rattle.std.specs.Prelude.{ℕ, ◌+◌, ◌*◌, ◌-◌, ◌^◌, ◌≤◌, ◌<◌, ◌≡◌, true, false, ◌⊎◌, List, [], ◌∷◌, ◌++◌, length, drop, replicate}
+use Rattle.std.specs.Prelude.{ℕ, ◌+◌, ◌*◌, ◌-◌, ◌^◌, ◌≤◌, ◌<◌, ◌≡◌, true, ◌⊎◌, List, [], ◌∷◌, ◌++◌, length, drop, replicate, Ok, Err}
 use Rattle.crc.specs.Crc.{crc_of}
 use Rattle.judge.specs.Table.{singles, blocks, target_code, limit_code, stepping_code}
 use Rattle.rig.specs.declared.Rig.{Rig}
@@ -14,8 +14,6 @@ use Rattle.wording.specs.declared.Command.{Command}
 use Rattle.wording.specs.declared.Command.TheVariants.{Relay, Iel, HeadMask, Target, Limit, Mode, Stepping, Multiplexers, DirectionWindow, EnergyWindow}
 use Rattle.wording.specs.declared.Refusal.{Refusal}
 use Rattle.wording.specs.declared.Refusal.TheVariants.{TooWide, NoRoom, NotOne}
-use Rattle.wording.specs.declared.Wrote.TheVariants as wrote
-use Rattle.wording.specs.declared.Meant.TheVariants as meant
 use Rattle.wording.specs.Written.{settings, fits, words_of, wrote_of, written_of}
 use Rattle.wording.specs.Meaning.{read_of, cleaned}
 use Rattle.wording.specs.Judged.{judged_of}
@@ -65,7 +63,7 @@ reached r c = settled_of (judged_in r c) (head_byte c) (judged_of r.core c)
 -- What is written, sent to a rig with nothing pending: every word but the last waits, and the last reaches what the settings come to.
 abbrev pub Sends : (Rig → ℕ → Taken) → Type 0
 Sends take =
-    (r : Rig) (c : Command) → r.pending.waiting ≡ false → fits c ≡ true
+    (r : Rig) (c : Command) → r.pending ≡ nothing_pending → fits c ≡ true
     → (replies_to take r (words_of c) ≡ replicate (length (words_of c) - 1) (Plain Waiting) ++ ((reached r c).reply ∷ []))
     × (rig_after take r (words_of c) ≡ (reached r c).rig)
 
@@ -93,17 +91,17 @@ Wide (s ∷ ss) = (2 ^ s.1 ≤ s.0) ⊎ Wide ss
 
 pub record WordingLaws : Type 0 where
   -- reading what is written gives the command back
-  pub back : (c : Command) → fits c ≡ true → read_of (words_of c) ≡ meant.Is c
+  pub back : (c : Command) → fits c ≡ true → read_of (words_of c) ≡ Ok c
   -- writing what was read gives the same words with ignored bits 0 and the check to match; and what is read can be written
-  pub again : (ws : List ℕ) (c : Command) → read_of ws ≡ meant.Is c → (words_of c ≡ cleaned ws) × (fits c ≡ true)
+  pub again : (ws : List ℕ) (c : Command) → read_of ws ≡ Ok c → (words_of c ≡ cleaned ws) × (fits c ≡ true)
   -- 38 exactly if the words are not one single and not one block; the reader gives no other number
-  pub not_one : (ws : List ℕ) → read_of ws ≡ meant.Refused NotOne → (OneSingle ws → ⊥) × (OneBlock ws → ⊥)
-  pub is_none : (ws : List ℕ) → (OneSingle ws → ⊥) → (OneBlock ws → ⊥) → read_of ws ≡ meant.Refused NotOne
-  pub no_other : (ws : List ℕ) (why : Refusal) → read_of ws ≡ meant.Refused why → why ≡ NotOne
+  pub not_one : (ws : List ℕ) → read_of ws ≡ Err NotOne → (OneSingle ws → ⊥) × (OneBlock ws → ⊥)
+  pub is_none : (ws : List ℕ) → (OneSingle ws → ⊥) → (OneBlock ws → ⊥) → read_of ws ≡ Err NotOne
+  pub no_other : (ws : List ℕ) (why : Refusal) → read_of ws ≡ Err why → why ≡ NotOne
   -- 25 exactly if a setting is too wide, then 26 exactly if there is less room than words; both leave the buffer
-  pub wide : (c : Command) (out : List ℕ) → Wide (settings c) → (wrote_of c (length out) ≡ wrote.Refused TooWide) × (written_of c out ≡ out)
+  pub wide : (c : Command) (out : List ℕ) → Wide (settings c) → (wrote_of c (length out) ≡ Err TooWide) × (written_of c out ≡ out)
   pub room : (c : Command) (out : List ℕ) → (Wide (settings c) → ⊥) → length out < length (words_of c)
-      → (wrote_of c (length out) ≡ wrote.Refused NoRoom) × (written_of c out ≡ out)
+      → (wrote_of c (length out) ≡ Err NoRoom) × (written_of c out ≡ out)
   -- otherwise the words stand at the front, and those behind them stay
   pub written : (c : Command) (out : List ℕ) → (Wide (settings c) → ⊥) → length (words_of c) ≤ length out
-      → (wrote_of c (length out) ≡ wrote.Words (length (words_of c))) × (written_of c out ≡ words_of c ++ drop (length (words_of c)) out)
+      → (wrote_of c (length out) ≡ Ok (length (words_of c))) × (written_of c out ≡ words_of c ++ drop (length (words_of c)) out)

@@ -1,10 +1,9 @@
 -- Words as 01 and the class have them, one for each command at least, as literals: names, codes and settings cannot trade places unseen.
 -- Assumes nothing.
-use Rattle.std.specs.Prelude.{◌≡◌, refl, [], ◌∷◌}
+use Rattle.std.specs.Prelude.{◌≡◌, refl, [], ◌∷◌, Ok}
 use Rattle.crc.specs.Crc.{shift, crc_from, crc_of}
 use Rattle.judge.specs.declared.Which.TheVariants.{Stop, Start, Deflection}
 use Rattle.wording.specs.declared.Command.TheVariants.{Relay, Iel, HeadMask, Target, Limit, Mode, Stepping, Multiplexers, DirectionWindow, EnergyWindow}
-use Rattle.wording.specs.declared.Meant.TheVariants.{Is}
 use Rattle.wording.specs.Written.{words_of}
 use Rattle.wording.specs.Meaning.{single_meant, block_meant, is_block, read_of}
 
@@ -42,14 +41,14 @@ unfolding crc_of crc_from shift
 multiplexers = refl
 
 -- singles and blocks have separate codes (01): 20h, 23h and 24h are read as the one or the other by the kind of the words
-pub single20 : (read_of (0x2005 ∷ []) ≡ Is (Target Start 5)) × (read_of (0x6002 ∷ 0xA001 ∷ 0xA000 ∷ 0xE015 ∷ []) ≡ Is (Multiplexers 1 0))
+pub single20 : (read_of (0x2005 ∷ []) ≡ Ok (Target Start 5)) × (read_of (0x6002 ∷ 0xA001 ∷ 0xA000 ∷ 0xE015 ∷ []) ≡ Ok (Multiplexers 1 0))
 unfolding single_meant block_meant is_block crc_of crc_from shift
 single20 = (refl, refl)
 
-pub single23 : (read_of (0x2305 ∷ []) ≡ Is (Target Deflection 5)) × (read_of (0x6302 ∷ 0xA303 ∷ 0xA313 ∷ 0xE346 ∷ []) ≡ Is (DirectionWindow 3 19))
+pub single23 : (read_of (0x2305 ∷ []) ≡ Ok (Target Deflection 5)) × (read_of (0x6302 ∷ 0xA303 ∷ 0xA313 ∷ 0xE346 ∷ []) ≡ Ok (DirectionWindow 3 19))
 unfolding single_meant block_meant is_block crc_of crc_from shift
 single23 = (refl, refl)
 
-pub single24 : (read_of (0x2409 ∷ []) ≡ Is (Limit Deflection 9)) × (read_of (0x6402 ∷ 0xA401 ∷ 0xA400 ∷ 0xE415 ∷ []) ≡ Is (EnergyWindow 1 0))
+pub single24 : (read_of (0x2409 ∷ []) ≡ Ok (Limit Deflection 9)) × (read_of (0x6402 ∷ 0xA401 ∷ 0xA400 ∷ 0xE415 ∷ []) ≡ Ok (EnergyWindow 1 0))
 unfolding single_meant block_meant is_block crc_of crc_from shift
 single24 = (refl, refl)

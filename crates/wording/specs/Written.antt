@@ -1,15 +1,14 @@
 -- The words of a command (02 (i)): the single word, or the whole block with its check; and when a setting is too wide. A supply's commands have the
 -- supply x, which tells the code (02 (iv)).
 -- Assumes nothing.
-use Rattle.std.specs.Prelude.{ℕ, ◌+◌, ◌*◌, ◌^◌, Bool, true, ◌&&◌, List, [], ◌∷◌, ◌++◌, ltb, leb, length, drop}
+use Rattle.std.specs.Prelude.{ℕ, ◌+◌, ◌*◌, ◌^◌, Bool, true, ◌&&◌, List, [], ◌∷◌, ◌++◌, ltb, leb, length, drop, Ok, Err}
 use Rattle.base.specs.Pick.{pick}
 use Rattle.crc.specs.Crc.{crc_of}
 use Rattle.judge.specs.Table.{target_code, limit_code, stepping_code}
 use Rattle.wording.specs.declared.Command.{Command}
 use Rattle.wording.specs.declared.Command.TheVariants.{Relay, Iel, HeadMask, Target, Limit, Mode, Stepping, Multiplexers, DirectionWindow, EnergyWindow}
 use Rattle.wording.specs.declared.Refusal.TheVariants.{TooWide, NoRoom}
-use Rattle.wording.specs.declared.Wrote.{Wrote}
-use Rattle.wording.specs.declared.Wrote.TheVariants.{Words, Refused}
+use Rattle.wording.specs.Shapes.{Wrote}
 
 -- Each setting, and how many bits 01 reads of it.
 abbrev pub settings : Command → List (ℕ × ℕ)
@@ -68,14 +67,14 @@ words_of (EnergyWindow start stop) = block 0x24 start stop
 
 -- Words put at the front of a buffer: 26 where there is too little room, and the buffer is untouched. Words behind them stay.
 abbrev pub put_answer : List ℕ → ℕ → Wrote
-put_answer ws room = pick (leb (length ws) room) (Words (length ws)) (Refused NoRoom)
+put_answer ws room = pick (leb (length ws) room) (Ok (length ws)) (Err NoRoom)
 
 abbrev pub put_into : List ℕ → List ℕ → List ℕ
 put_into ws out = pick (leb (length ws) (length out)) (ws ++ drop (length ws) out) out
 
 -- A command written: 25 comes first, and leaves the buffer untouched too.
 unfoldable pub wrote_of : Command → ℕ → Wrote
-wrote_of c room = pick (fits c) (put_answer (words_of c) room) (Refused TooWide)
+wrote_of c room = pick (fits c) (put_answer (words_of c) room) (Err TooWide)
 
 unfoldable pub written_of : Command → List ℕ → List ℕ
 written_of c out = pick (fits c) (put_into (words_of c) out) out

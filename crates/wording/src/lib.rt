@@ -1,10 +1,11 @@
-// Commands by name, with their settings: what one is made of, the answers of those who write and read its words, and the numbers of their refusals.
+// Commands by name, with their settings: what one is made of, and the numbers of the refusals of those who write and read its words.
 // Keeps 02 (i) and, of (iv), the commands of three supplies. Crate `word_writer` writes a command's words, `word_reader` reads words back; the rules of
 // both are defined here.
 #![tactic(auto)]
 
-ghost use Rattle.std.specs.Prelude.{◌≡◌};
+ghost use Rattle.std.specs.Prelude.{◌≡◌, ◌%◌};
 ghost use Rattle.wording.specs.Refusals.{number_of};
+ghost use Rattle.wording.specs.Written.{block};
 
 use judge::Which;
 
@@ -41,21 +42,7 @@ pub enum Refusal {
     NotOne,
 }
 
-// How many words were written.
-#[derive(Clone, Copy)]
-pub enum Wrote {
-    Words(usize),
-    Refused(Refusal),
-}
-
-// What words mean.
-#[derive(Clone, Copy)]
-pub enum Meant {
-    Is(Command),
-    Refused(Refusal),
-}
-
-// The number of a refusal.
+// The number of a refusal. A function and no `From`: demands/specs/Ours speaks of its contract.
 pub fn number(r: Refusal) -> u8
     ensures { result ≡ number_of r }
 {
@@ -64,4 +51,18 @@ pub fn number(r: Refusal) -> u8
         Refusal::NoRoom => 26,
         Refusal::NotOne => 38,
     }
+}
+
+// The words of a block of two data words: head, data and end of one code of six bits, the end with the check over both bytes.
+pub fn block(code: u8, first: u8, second: u8) -> [u16; 4]
+    ensures { result ≡ block (code % 64) first second }
+{
+    let code = code % 64;
+    let check = crc::check_of(&[first, second]);
+    [
+        base::word_of(0x40 + code, 2),
+        base::word_of(0x80 + code, first),
+        base::word_of(0x80 + code, second),
+        base::word_of(0xC0 + code, check),
+    ]
 }

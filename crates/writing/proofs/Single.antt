@@ -5,7 +5,7 @@ use contract.Lifetimes.{Lfts}
 use denote.Triple.Clauses.{AtExit}
 use borrow.Fn.Kinds.{Dens, ended_of}
 use Rattle.base.proofs.Single.{same}
-use Rattle.frame.specs.declared.Wrote.{Wrote}
+use Rattle.frame.specs.Shapes.{Wrote}
 use Rattle.writing.proofs.write_at.Kinds as write-at-kinds
 use Rattle.writing.proofs.write_at.Reads as write-at
 

@@ -10,23 +10,23 @@ zeros = 0 ∷ 0 ∷ 0 ∷ 0 ∷ []
 
 pub slice_bounds-words-end : goal.slice_bounds-words-end
 slice_bounds-words-end c =
-    let t = (words_told c.args.c zeros refl c.in-Words.n (sym c.in-Words.ensures.0)).0 in
+    let t = (words_told c.args.c zeros refl c.in-Ok.n (sym c.in-Ok.ensures.0)).0 in
     omega (arith, t)
 
 pub slice_bounds-put_lines-end : goal.slice_bounds-put_lines-end
 slice_bounds-put_lines-end c =
-    let t = (words_told c.args.c zeros refl c.in-Words.n (sym c.in-Words.ensures.0)).0 in
+    let t = (words_told c.args.c zeros refl c.in-Ok.n (sym c.in-Ok.ensures.0)).0 in
     simp length-take (omega (arith, t))
 
-pub returns-in-Words : goal.returns-in-Words
-returns-in-Words c =
-    let t = words_told c.args.c zeros refl c.in-Words.n (sym c.in-Words.ensures.0) in
-    let q = rw c.in-Words.ensures.1 at c.put_lines.ensures in
-    let l = lines_length (take c.in-Words.n (written_of c.args.c zeros)) in
-    let u = length-take c.in-Words.n (written_of c.args.c zeros) in
-    (rw t.1 at q, omega (arith, q.place, l, u, t.0))
+pub returns-in-Ok : goal.returns-in-Ok
+returns-in-Ok c =
+    let t = words_told c.args.c zeros refl c.in-Ok.n (sym c.in-Ok.ensures.0) in
+    let q = rw c.in-Ok.ensures.1 at c.put_lines.ensures in
+    let l = lines_length (take c.in-Ok.n (written_of c.args.c zeros)) in
+    let u = length-take c.in-Ok.n (written_of c.args.c zeros) in
+    (rw t.1 at q, omega (arith, q.puts.place, l, u, t.0))
 
-pub returns-in-Refused : goal.returns-in-Refused
-returns-in-Refused c =
-    let t = refusal_told c.args.c zeros refl c.in-Refused.why (sym c.in-Refused.ensures.0) in
-    rw t at c.put_refused.ensures
+pub returns-in-Err : goal.returns-in-Err
+returns-in-Err c =
+    let t = refusal_told c.args.c zeros refl c.in-Err.why (sym c.in-Err.ensures.0) in
+    (rw t at c.put_refused.ensures.0, omega (arith, c.put_refused.ensures.1))

@@ -12,7 +12,7 @@ pub returns : goal.returns
 unfolding cells_after is_plain
 returns c =
     let a = c.args in
-    let g = λ (k : ℕ). cell_after (told_by a.half a.frame.now a.i a.b k) (get_or a.old k blank) in
+    let g = λ (k : ℕ). cell_after (told_by a.half a.slot.now a.turn.index a.turn.byte39 k) (get_or a.old k blank) in
     (row g 0 c.plain_cell.ensures
     (row g 1 c.plain_cell-2.ensures
     (row g 2 c.plain_cell-3.ensures
@@ -38,8 +38,8 @@ returns c =
     (row g 22 c.plain_cell-23.ensures
     (row g 23 c.plain_cell-24.ensures
     (row g 24 c.plain_cell-25.ensures
-    (row g 25 c.spread_cell.ensures
-    (row g 26 c.spread_cell-2.ensures
+    (row g 25 (rw c.spread.ensures at c.told.ensures)
+    (row g 26 (rw c.spread-2.ensures at c.told-2.ensures)
     (row g 27 c.plain_cell-26.ensures
     (row g 28 c.plain_cell-27.ensures
     (row g 29 c.plain_cell-28.ensures

@@ -1,12 +1,9 @@
--- The loop of `crc::next`: after k turns of the loop, k shift steps.
+-- The loop of `crc::next`: after so many turns of the loop, so many shift steps.
 -- Assumes nothing.
-use Rattle.std.proofs.Common.{◌-◌, ◌≡◌, ◌≤◌}
+use Rattle.std.proofs.Common.{◌≡◌}
 use Rattle.std.specs.Int.Bits.{bit_xor}
 use Rattle.crc.proofs.Steps.{shifts}
 use Rattle.crc.proofs.next.Given as goal
 
-abbrev pub invariant-loop-k : goal.invariant-loop-k
-invariant-loop-k l = (l.k ≤ 8) × (l.x ≡ shifts l.k (bit_xor l.c l.b))
-
-abbrev pub decreases-loop-k : goal.decreases-loop-k
-decreases-loop-k l = 8 - l.k
+abbrev pub invariant-loop : goal.invariant-loop
+invariant-loop l = l.x ≡ shifts l.counter (bit_xor l.c l.b)

@@ -1,8 +1,9 @@
 -- `desk::heard` meets its contract: the cells, and what is half read.
 -- Assumes nothing.
-use Rattle.std.proofs.Common.{◌≡◌, ◌∙◌, List, ℕ}
+use Rattle.std.proofs.Common.{◌≡◌, ◌∙◌, ap, List, ℕ}
+use Rattle.frame.specs.declared.Turn.{Turn}
 use Rattle.cell.specs.declared.Cell.{Cell}
-use Rattle.half.specs.declared.Half.{Half}
+use Rattle.half.specs.Shapes.{Half}
 use Rattle.cells.specs.Cells.{cells_after}
 use Rattle.bringing.specs.Bringing.{told_by}
 use Rattle.desk.specs.declared.Desk.{Desk}
@@ -20,6 +21,9 @@ returns c =
     let a = c.args in
     let f = a.frame.now in
     let half = a.desk.half in
+    let i = ap (λ (t : Turn). t.index) c.requires.1 in
+    let b = ap (λ (t : Turn). t.byte39) c.requires.1 in
     by_parts a.desk f _ _
-    (c.cells_after-cells.ensures ∙ cells_same (told_by half f a.i a.b) (reading_of half f) a.desk.cells (reading_is half f a.i a.b c.requires.0 c.requires.1 c.requires.2))
-    (c.half_after-next.ensures ∙ half_is half f a.i a.b c.requires.1 c.requires.2)
+    (c.cells_after-cells.ensures
+    ∙ cells_same (told_by half f a.turn.index a.turn.byte39) (reading_of half f) a.desk.cells (reading_is half f a.turn.index a.turn.byte39 c.requires.0 i b))
+    (c.half_after-half.ensures ∙ half_is half f a.turn.index a.turn.byte39 i b)

@@ -1,11 +1,9 @@
--- `lines::put_said` meets its contract: the word and then the text, each where there is room for it.
+-- `lines::put_said` meets its contract: the word and then the text, on a page that has room for both.
 -- Assumes nothing.
 use Rattle.std.proofs.Common.{arith}
-use Rattle.lines.specs.Bounds.{WORD}
-use Rattle.text.proofs.Puts.{chain, fits}
+use Rattle.text.specs.Digits.{hex_word}
+use Rattle.text.proofs.Puts.{gets_two}
 use Rattle.lines.proofs.put_said.Goals as goal
 
 pub returns : goal.returns
-returns c =
-    let digits = fits WORD c.args.at (omega arith) (rw c.hex_word-digits.ensures at c.put-next.ensures) in
-    chain digits (fits _ c.put-next.result (omega (arith, digits.place)) c.put.ensures) (omega arith)
+returns c = gets_two (hex_word c.args.word) c.args.said.now (rw c.hex_word-digits.ensures at c.put.ensures) c.put-2.ensures (omega arith)

@@ -1,18 +1,14 @@
--- `listing::finish` meets its contract: with or without the line of a lone byte before it.
+-- `listing::finish` meets its contract: the line of a lone byte, if there is one, and the last line.
 -- Assumes nothing.
 use Rattle.std.proofs.Common.{arith}
 use Rattle.last_line.specs.LastLine.{LAST}
-use Rattle.text.proofs.Puts.{chain, fits}
-use Rattle.listing.proofs.Front.{front}
+use Rattle.text.proofs.Puts.{gets_all, gets_both}
+use Rattle.listing.proofs.Front.{front, odd_short}
 use Rattle.listing.proofs.finish.Goals as goal
 
-pub returns-in-Nothing : goal.returns-in-Nothing
-returns-in-Nothing c =
-    let e = front (fits LAST 0 (omega arith) c.put_last_line.ensures) in
-    simp c.in-Nothing.is (e.0, e.1, e.2)
-
-pub returns-in-High : goal.returns-in-High
-returns-in-High c =
-    let odd = fits 9 0 (omega arith) c.put-at.ensures in
-    let e = front (chain odd (fits LAST c.put-at.result (omega arith) c.put_last_line-in-High.ensures) (omega arith)) in
-    simp c.in-High.is (e.0, e.1, e.2)
+pub returns : goal.returns
+returns c =
+    let odd = c.put_odd.ensures in
+    let o = odd_short c.args.lister.lone in
+    let last = gets_all LAST (omega (arith, odd.long, odd.puts.place, o)) c.put_last_line.ensures in
+    front (gets_both odd last (omega (arith, o))).puts

@@ -5,4 +5,4 @@ use Rattle.numerals.proofs.Reading.{few_digits}
 use Rattle.numerals.proofs.read_word.Goals as goal
 
 pub overflow_cast-result : goal.overflow_cast-result
-overflow_cast-result c = omega (arith, few_digits c.args.text.now c.in-Is.n 4 (omega arith) (sym c.in-Is.ensures))
+overflow_cast-result c = omega (arith, few_digits c.args.text.now c.in-Ok.n 4 (omega arith) (sym c.in-Ok.ensures))

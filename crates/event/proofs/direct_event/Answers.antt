@@ -1,9 +1,0 @@
--- `event::direct_event` meets its contract: what stands at the entry is what is asked for.
--- Assumes nothing.
-use Rattle.std.proofs.Common.{ap, ◌∙◌}
-use Rattle.event.specs.Event.{event_in}
-use Rattle.event.proofs.Laws.{direct_is}
-use Rattle.event.proofs.direct_event.Goals as goal
-
-pub returns : goal.returns
-returns c = c.event_in.ensures ∙ ap (event_in _) c.direct_at.ensures ∙ direct_is _ _

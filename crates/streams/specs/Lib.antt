@@ -1,0 +1,2 @@
+-- What a fold over a stream comes to.
+pub mod Folded
