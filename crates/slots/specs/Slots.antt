@@ -1,8 +1,6 @@
 -- What passes between rig and desk: each moves by its own rule, and a frame built and heard moves both.
 -- Keeps 01 "The 40-byte frame"; the rules are those of `sending` and `desk`. Assumes nothing.
-use denote.Ref.{Bor}
-use Rattle.std.specs.Prelude.{◌≡◌, ℕ, List, Ok, Err}
-use Rattle.std.specs.Fn.{Once, FnOnceReturns}
+use Rattle.std.specs.Prelude.{ℕ, List, Ok, Err}
 use Rattle.frame.specs.Shapes.{Wrote}
 use Rattle.frame.specs.Write.{wrote_of}
 use Rattle.desk.specs.declared.Answer.TheVariants.{Missed}
@@ -33,19 +31,18 @@ abbrev pub passed_if : Wrote → Bench → Received → Passed
 passed_if (Ok tt) b t = record { bench = record { rig = sent b.rig; desk = t.desk }; outcome = Ok t.answer }
 passed_if (Err why) b t = record { bench = b; outcome = Err why }
 
--- t is what a call of f may make of a slot, at the desk d and the bytes x that came
-abbrev pub SlotGives : {F : Type 0} → Once F (Desk × (Bor (List ℕ) × Unit {0})) Received → F → Desk → List ℕ → Received → Type 0
-SlotGives g f d x t = (p : Bor (List ℕ)) × FnOnceReturns g f (d, (p, tt)) t × (p.now ≡ x)
-
--- once the frame is written, its slot passes, and the desk makes of it what is given; where there was no room (18), no slot passes
-abbrev pub PassedBy : (Received → Type 0) → Wrote → Bench → Passed → Type 0
-PassedBy Gives (Ok tt) b y = (t : Received) × Gives t × (y ≡ passed_if (Ok tt) b t)
-PassedBy Gives (Err why) b y = y ≡ record { bench = b; outcome = Err why }
+-- the next frame built at a place of the buffer s, and its slot passed: `made` is what the desk makes of the frame's bytes
+abbrev pub passed_by : (Desk → List ℕ → Received) → Bench → List ℕ → ℕ → Passed
+passed_by made b s at = passed_if (wrote_of at s) b (made b.desk (next_frame b.rig))
 
 -- the next frame built at a place of the buffer s and handed on whole
 abbrev pub arrived_bench : Bench → List ℕ → ℕ → Passed
-arrived_bench b s at = passed_if (wrote_of at s) b (slot_of b.desk (next_frame b.rig))
+arrived_bench b s at = passed_by slot_of b s at
+
+-- a slot marked missed, whatever frame was built for it
+abbrev pub missed_slot : Desk → List ℕ → Received
+missed_slot d f = record { answer = Missed; desk = missed_of d }
 
 -- the next frame built at a place of the buffer s, and its slot marked missed
 abbrev pub lost_bench : Bench → List ℕ → ℕ → Passed
-lost_bench b s at = passed_if (wrote_of at s) b (record { answer = Missed; desk = missed_of b.desk })
+lost_bench b s at = passed_by missed_slot b s at

@@ -2,13 +2,14 @@
 // Keeps 01 "The 40-byte frame"; the demands are said of these functions' definitions.
 #![tactic(auto)]
 
-ghost use Rattle.std.specs.Prelude.{◌≡◌};
-ghost use Rattle.frame.specs.Write.{wrote_of};
-ghost use Rattle.sending.specs.Sending.{next_frame, filled_of};
-ghost use Rattle.slots.specs.Slots.{built_bench, handed_of, missed_bench, SlotGives, PassedBy};
+ghost use Rattle.std.specs.Prelude.{◌≡◌, ℕ, List};
+ghost use Rattle.desk.specs.declared.Desk.{Desk};
+ghost use Rattle.desk.specs.declared.Received.{Received};
+ghost use Rattle.sending.specs.Sending.{filled_of};
+ghost use Rattle.slots.specs.Slots.{built_bench, handed_of, missed_bench, passed_by};
 
 use bench::Bench;
-use desk::{Answer, Desk, Received};
+use desk::Answer;
 use frame::Refusal;
 
 // After a frame was to be built: the bench, and whether there was room.
@@ -70,22 +71,22 @@ pub fn miss(bench: Bench) -> Bench
     }
 }
 
-// The next frame is built at a place of the caller's buffer, and its slot passes at once: `slot` says what the desk makes of the frame's bytes. Where there
-// is no room (18) no slot passes.
-pub fn pass<F: FnOnce(Desk, &[u8]) -> Received>(
-    bench: Bench,
-    buf: &mut [u8],
-    at: usize,
-    slot: F,
-) -> Passed
-    requires { F.IsAlwaysCallable slot }
-    ensures passed { PassedBy (SlotGives F.FnOnce slot bench.desk (next_frame bench.rig)) (wrote_of at buf.old) bench result }
-    ensures written { buf.new ≡ filled_of bench.rig buf.old at }
+// What comes of a slot: what the desk makes of the frame that was built for it.
+pub trait Slot {
+    ghost made: { Desk → List ℕ → Received };
+
+    fn pass(self, desk: desk::Desk, frame: &[u8]) -> desk::Received
+        ensures { result ≡ made desk frame.now };
+}
+
+// The next frame is built at a place of the caller's buffer, and its slot passes at once. Where there is no room (18) no slot passes.
+pub fn pass<S: Slot + Copy>(bench: Bench, buf: &mut [u8], at: usize, slot: S) -> Passed
+    ensures { (result ≡ passed_by S.made bench buf.old at) × (buf.new ≡ filled_of bench.rig buf.old at) }
 {
     let sent = build(bench, buf, at);
     match sent.wrote {
         Ok(()) => {
-            let passed = slot(sent.bench.desk, &buf[at..at + 40]);
+            let passed = slot.pass(sent.bench.desk, &buf[at..at + 40]);
             Passed {
                 bench: Bench {
                     desk: passed.desk,
