@@ -2,8 +2,11 @@
 // Keeps 02 (i): the class picks from a menu. What it writes is `answering`'s, and what a line is `cutting`'s; it only reads and writes.
 #![tactic(auto)]
 
+ghost use Rattle.std.specs.Prelude.{⊤};
+
 use cutting::{Held, ROOM, Said};
 use std::io;
+use streams::{PIECE, Step};
 
 // Writes the answer to a line.
 fn tell(rt: &impl Print, said: Said, line: &[u8; ROOM]) -> io::Result<()> {
@@ -30,6 +33,21 @@ fn feed(
     Ok(now)
 }
 
+// The lines of each piece are answered; what is held of a line is in the buffer. Nothing is promised of it: what a line is, `cutting` says.
+#[derive(Drop)]
+struct Answering<'a, R> {
+    rt: &'a R,
+    line: &'a mut [u8; ROOM],
+}
+
+impl<'a, R: Print + Eprint> Step<Held> for Answering<'a, R> {
+    ghost comes_to = { λ before held piece n outcome after. ⊤ };
+
+    fn step(&mut self, held: Held, piece: &[u8; PIECE], n: usize) -> io::Result<Held> {
+        feed(self.rt, held, &piece[..n.min(PIECE)], self.line)
+    }
+}
+
 // The last line may have no newline: it is answered at the end of the input.
 fn main(rt: HostRuntime) -> io::Result<()> {
     let mut line = [0u8; ROOM];
@@ -38,7 +56,10 @@ fn main(rt: HostRuntime) -> io::Result<()> {
         "menu: cannot read\n",
         &mut rt.stdin(),
         cutting::begin(),
-        |held, piece, n| feed(&rt, held, &piece[..n], &mut line),
+        Answering {
+            rt: &rt,
+            line: &mut line,
+        },
     )?;
     tell(&rt, cutting::finish(held, &line), &line)
 }

@@ -2,7 +2,11 @@
 // Keeps 02 (iii): a student can follow the check. What it writes is `shift_lines`'s, and the check `crc`'s; it only reads and writes.
 #![tactic(auto)]
 
+ghost use Rattle.std.specs.Prelude.{◌≡◌, take, IfOk};
+ghost use Rattle.crc.specs.Crc.{crc_from};
+
 use std::io;
+use streams::{PIECE, Step};
 
 // Writes a text on standard output. Where that fails there is no last line.
 fn tell(rt: &(impl Print + Eprint), text: &[u8]) -> io::Result<()> {
@@ -10,7 +14,10 @@ fn tell(rt: &(impl Print + Eprint), text: &[u8]) -> io::Result<()> {
 }
 
 // Writes the lines of each byte of a piece.
-fn follow(rt: &(impl Print + Eprint), before: u8, piece: &[u8]) -> io::Result<u8> {
+#[tactic(auto, using(crc::proofs::Walk::from_more, crc::proofs::Walk::from_end))]
+fn follow(rt: &(impl Print + Eprint), before: u8, piece: &[u8]) -> io::Result<u8>
+    ensures { IfOk result (λ check. check ≡ crc_from before piece.now) }
+{
     let mut check = before;
     for byte in piece {
         tell(rt, &shift_lines::byte_lines(check, *byte))?;
@@ -19,13 +26,27 @@ fn follow(rt: &(impl Print + Eprint), before: u8, piece: &[u8]) -> io::Result<u8
     Ok(check)
 }
 
+// Each piece is followed, from the check so far.
+#[derive(Clone, Copy)]
+struct Following<'a, R> {
+    rt: &'a R,
+}
+
+impl<'a, R: Print + Eprint> Step<u8> for Following<'a, R> {
+    ghost comes_to = { λ before check piece n outcome after. IfOk outcome (λ next. next ≡ crc_from check (take n piece)) };
+
+    fn step(&mut self, check: u8, piece: &[u8; PIECE], n: usize) -> io::Result<u8> {
+        follow(self.rt, check, &piece[..n.min(PIECE)])
+    }
+}
+
 fn main(rt: HostRuntime) -> io::Result<()> {
     let check = streams::fold(
         &rt,
         "shifts: cannot read\n",
         &mut rt.stdin(),
         0,
-        |check, piece, n| follow(&rt, check, &piece[..n]),
+        Following { rt: &rt },
     )?;
     tell(&rt, &shift_lines::check_line(check))
 }

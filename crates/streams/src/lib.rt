@@ -1,8 +1,9 @@
 // An input read to its end, piece by piece, and what failed said on standard error.
-// For the programs that read a stream. What a piece means is the caller's: it comes as a closure.
+// For the programs that read a stream. What a piece means is the caller's: it comes as a step.
 #![tactic(auto)]
 
-ghost use Rattle.std.specs.Prelude.{◌≡◌, ◌≤◌, ℕ, IfOk};
+ghost use Rattle.std.specs.Prelude.{◌≡◌, ℕ, List, Result, IfOk};
+ghost use Rattle.std.specs.declared.io.Error.{Error};
 ghost use Rattle.std.specs.Io.KnownBytes.{Consumes};
 ghost use Rattle.streams.specs.Folded.{Folded};
 
@@ -22,17 +23,25 @@ pub fn or_say<T: Drop>(rt: &impl Eprint, why: &str, outcome: io::Result<T>) -> i
     outcome
 }
 
+// What a program makes of a piece of its input, with a state that it carries on. It takes every number for how many bytes came.
+pub trait Step<S> {
+    // What a call may come to: of the step and the state before it, the piece and how many bytes of it came, the outcome, and the step after it.
+    ghost comes_to: { Self → S → List ℕ → ℕ → Result S Error → Self → Type 0 };
+
+    fn step(&mut self, state: S, piece: &[u8; PIECE], n: usize) -> io::Result<S>
+        ensures { comes_to self.old state piece.now n result self.new };
+}
+
 // Reads to the end of the input, and folds what comes: the step takes the state so far and a piece of which n bytes came, and answers the next state.
 // An error of the step ends the reading. A proved loop has to end, and nothing says that the input does: so it has 2^64 - 1 turns.
-pub fn fold<S: Drop, F: FnMut(S, &[u8; PIECE], usize) -> io::Result<S>, I: Read>(
+pub fn fold<S: Drop, F: Step<S> + Drop, I: Read>(
     rt: &impl Eprint,
     why: &str,
     input: &mut I,
     start: S,
     mut step: F,
 ) -> io::Result<S>
-    requires { (f : F) (s : S) (piece : _) (n : ℕ) → n ≤ 4096 → F.pre f s piece n }
-    ensures { IfOk result (λ end. (read : _) × (last : F) × Folded F.step step start read last end × Consumes (I.remaining input.old) (I.remaining input.new) read) }
+    ensures { IfOk result (λ end. (read : _) × (last : F) × Folded F.comes_to step start read last end × Consumes (I.remaining input.old) (I.remaining input.new) read) }
 {
     let mut piece = [0u8; PIECE];
     let mut state = start;
@@ -41,7 +50,7 @@ pub fn fold<S: Drop, F: FnMut(S, &[u8; PIECE], usize) -> io::Result<S>, I: Read>
         if n == 0 {
             break;
         }
-        state = step(state, &piece, n)?;
+        state = step.step(state, &piece, n)?;
     }
     Ok(state)
 }

@@ -9,5 +9,5 @@ abbrev pub invariant-loop : goal.invariant-loop
 invariant-loop g l =
     (length l.piece ≡ 4096)
     × ((read : List ℕ)
-    × Folded (goal.F-step g) l.fn.step l.fn.start read l.step l.state
+    × Folded g.F.Step.comes_to l.fn.step l.fn.start read l.step l.state
     × Consumes (g.I.Read.remaining l.fn.input) (g.I.Read.remaining l.input) read)
