@@ -2,7 +2,8 @@
 // Keeps 01 "What students would slip past us" and the desk's paragraph of "The 40-byte frame"; 02 (ii), the register.
 #![tactic(auto)]
 
-ghost use Rattle.std.specs.Prelude.{◌<◌};
+ghost use Rattle.std.specs.Prelude.{◌≡◌, ◌<◌};
+ghost use Rattle.slots.specs.Slots.{lost_bench};
 
 use bench::Bench;
 use frame::Item;
@@ -113,6 +114,17 @@ struct Run<'a> {
     shows: Shows<'a>,
 }
 
+// A frame built and lost: in two calls where its slot has a line, and else in one. Both come to the same.
+fn lost(bench: Bench, f: &mut [u8; 40], is_told: bool) -> Bench
+    ensures { result ≡ (lost_bench bench f.old 0).bench }
+{
+    if is_told {
+        slots::miss(slots::build(bench, f, 0).bench)
+    } else {
+        losing::lost(bench, f, 0).bench
+    }
+}
+
 impl<'a> Run<'a> {
     fn on(self, bench: Bench) -> Run<'a> {
         Run { bench, ..self }
@@ -152,11 +164,10 @@ impl<'a> Run<'a> {
     // One slot.
     fn pass(self, rt: &impl Print, came: Came, is_told: bool) -> io::Result<Run<'a>> {
         let mut f = [0u8; 40];
-        let built = slots::build(self.bench, &mut f, 0).bench;
         let bench = match came {
-            Whole => slots::hand(built, &f).bench,
-            Missed => slots::miss(built),
-            Fill => slots::hand(built, &[0xC0; 40]).bench,
+            Whole => slots::hand(slots::build(self.bench, &mut f, 0).bench, &f).bench,
+            Missed => lost(self.bench, &mut f, is_told),
+            Fill => slots::hand(slots::build(self.bench, &mut f, 0).bench, &[0xC0; 40]).bench,
         };
         if is_told {
             self.say(rt, bench, came, &f)?;
