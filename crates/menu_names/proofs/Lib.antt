@@ -1,3 +1,4 @@
 -- The names of the menu, and single outcome.
+pub mod Called
 pub mod Rows
 pub mod Single

@@ -12,8 +12,8 @@ fn is_space(b: &u8) -> bool
 }
 
 // Two spaces that stand together have no word between them.
-fn is_word(stretch: &&[u8]) -> bool
-    ensures { result ≡ is_word stretch.now.now }
+fn is_word(stretch: &[u8]) -> bool
+    ensures { result ≡ is_word stretch.now }
 {
     !stretch.is_empty()
 }
@@ -22,12 +22,38 @@ fn is_word(stretch: &&[u8]) -> bool
 pub fn count(line: &[u8]) -> usize
     ensures { result ≡ length (words_of line.now) }
 {
-    line.split(is_space).filter(is_word).count()
+    let mut words = 0;
+    let mut start = 0;
+    for (at, b) in line.iter().enumerate() {
+        if is_space(b) {
+            if is_word(&line[start..at]) {
+                words += 1;
+            }
+            start = at + 1;
+        }
+    }
+    if is_word(&line[start..]) {
+        words += 1;
+    }
+    words
 }
 
 // A word of a line by its number, from 0 on; none past the last.
 pub fn word(line: &[u8], k: usize) -> &[u8]
     ensures { result.now ≡ get_or (words_of line.now) k [] }
 {
-    line.split(is_space).filter(is_word).nth(k).unwrap_or(&[])
+    let mut before = k;
+    let mut start = 0;
+    for (at, b) in line.iter().enumerate() {
+        if is_space(b) {
+            if is_word(&line[start..at]) {
+                if before == 0 {
+                    return &line[start..at];
+                }
+                before -= 1;
+            }
+            start = at + 1;
+        }
+    }
+    if before == 0 { &line[start..] } else { &[] }
 }

@@ -1,23 +1,30 @@
--- `splitting::word` meets its contract: what the chain gives are the line's words.
+-- The turn of the loop of `splitting::word`.
 -- Assumes nothing.
-use Rattle.std.proofs.Common.{◌∙◌, refl, arith, ap, ℕ, List, rules, tests}
-use Rattle.std.specs.List.{slice_get}
-use Rattle.std.proofs.lemmas.Iterator.Splits.{YieldsList-from_slice_split}
-use Rattle.std.proofs.lemmas.Iterator.Consumers.{YieldsList-from_filter, nth_from_yields_List}
-use Rattle.splitting.specs.Words.{is_space, is_word}
-use Rattle.splitting.proofs.Laws.{words_are, picked}
+use Rattle.std.proofs.Common.{◌∙◌, ◌+◌, [], List, ℕ, get_or, sym, ap, arith}
+use Rattle.splitting.proofs.Steps.{letter, word_ends, none_ends, later, held, left}
+use Rattle.splitting.proofs.word.Goals.{then-is_space, then-is_word+else-before-eq0, else-is_word, else-is_space}
 use Rattle.splitting.proofs.word.Goals as goal
 
-pub returns : goal.returns
-returns c =
-    let found =
-    nth_from_yields_List c.nth.result _ _ c.nth.ensures.ran
-    (YieldsList-from_filter _ is_word
-    (YieldsList-from_slice_split _ is_space c.args.line.now
-    (rw (← c.filter.ensures.source) at c.split.ensures.rest)
-    (rw (← c.filter.ensures.source) at c.split.ensures.done)
-    (rw (← c.filter.ensures.source) at c.split.ensures.closure)
-    (λ x b q k. search (rules, tests)))
-    c.filter.ensures.closure
-    (λ x b q k. search (rules, tests))) in
-    picked c.nth.result _ c.unwrap_or.result _ _ _ c.args.k found (words_are c.args.line.now) c.unwrap_or.ensures refl (omega arith)
+pub loop-at-preserved : goal.loop-at-preserved
+loop-at-preserved c =
+    let inv = c.loop-at.invariant in
+    let line = c.args.line.now in
+    let start = c.loop-at.start in
+    let at = c.loop-at.at in
+    let test = c.loop-at-test.true in
+    let one = λ (words : List (List ℕ)). get_or words c.loop-at.before [] in
+    elim c.if-is_space.branch [
+      | then-is_space w ↦
+          elim w.if-is_word.branch [
+            | then-is_word+else-before-eq0 v ↦
+                let e = ap one (word_ends line start at test (sym w.if-is_space.ensures) (sym v.if-is_word.ensures)) in
+                let f = later (held line start at) (left line (at + 1) (at + 1)) c.loop-at.before v.if-before-eq0.false in
+                rw (w.before-is, v.before-is, w.start-is) (omega arith, sym f ∙ sym e ∙ inv.1)
+            | else-is_word v ↦
+                let e = ap one (none_ends line start at test (sym w.if-is_space.ensures) (sym v.if-is_word.ensures)) in
+                rw (w.before-is, v.before-is, w.start-is) (omega arith, sym e ∙ inv.1)
+          ]
+      | else-is_space w ↦
+          let e = ap one (letter line start at inv.0 test (sym w.if-is_space.ensures)) in
+          rw (w.before-is, w.start-is) (omega (arith, inv.0), sym e ∙ inv.1)
+    ]
