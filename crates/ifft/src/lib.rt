@@ -25,15 +25,18 @@ fn is_turn(spin: u8, first: u8) -> bool
     [first, first + 2, first + 4].contains(&spin)
 }
 
-// 24: not NM, no IFFT, a memory dump, another spin counter, or a count that the block can't hold.
+// 24: not NM, no IFFT, a memory dump, a count that the block can't hold, or another spin counter, which is asked last: it takes three comparisons.
 #[tactic(auto, unfolding(event::specs::Ifft::wrong))]
 fn is_wrong(layout: Layout, spin: u8, count: u8, entries: Entries) -> bool
     requires { entries.first ≤ 6 }
     ensures { result ≡ wrong layout.kind layout.d1 spin count entries.first entries.most }
 {
     let d1 = layout.d1;
-    let turn = is_turn(spin, entries.first);
-    layout.kind != Kind::Nm || d1 % 2 != 1 || d1 / 4 % 2 == 1 || !turn || entries.most < count
+    layout.kind != Kind::Nm
+        || d1 % 2 != 1
+        || d1 / 4 % 2 == 1
+        || entries.most < count
+        || !is_turn(spin, entries.first)
 }
 
 // Where the entry of a number begins in the IFFT block, which begins at 20h; or why it is refused.

@@ -73,13 +73,17 @@ fn kind_by(third: u8) -> Result<Kind, Refusal>
     }
 }
 
-// What a block is, with its two content descriptors; or the first of 20 (under 3 bytes), 19, 20, 21 that it is refused with.
+// What a block is, with its two content descriptors; or the first of 20 (under 3 bytes), 19, 20, 21 that it is refused with. Each arm names the kind,
+// so that the compiler makes the tests of each kind apart.
 #[tactic(auto, using(crate::proofs::Laws::begun, crate::proofs::Laws::unknown, block::proofs::Laws::unmarked), unfolding(block::specs::Layout::layout_of, block::specs::Layout::marker))]
 pub fn layout_of(b: &[u8]) -> Result<Layout, Refusal>
     ensures { result ≡ layout_of b.now }
 {
     match b {
-        [0x14, 0x6F, third, ..] => layout_as(b, kind_by(*third)?),
+        [0x14, 0x6F, third, ..] => match kind_by(*third)? {
+            Kind::Nm => layout_as(b, Kind::Nm),
+            Kind::Bm1 => layout_as(b, Kind::Bm1),
+        },
         [_, _, _, ..] => Err(Refusal::NoMarker),
         _ => Err(Refusal::WrongLength),
     }

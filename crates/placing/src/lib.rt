@@ -149,15 +149,25 @@ fn row_in(kind: Kind, part: Part) -> Option<Place>
     }
 }
 
-// Where a part stands in a block of this layout: its first byte and its length; or 22, or 23.
+// Where a part of a kind stands under these descriptors: its first byte and its length; or 22, or 23.
 // 22 before 23: a part that a kind does not have is never called hidden.
 #[tactic(auto, using(crate::proofs::Laws::lacking, crate::proofs::Laws::hiding, crate::proofs::Laws::found))]
-pub fn place_of(layout: Layout, part: Part) -> Result<Place, Refusal>
-    ensures { result ≡ place_of layout.kind layout.d1 layout.d2 part }
+fn place_as(kind: Kind, d1: u8, d2: u8, part: Part) -> Result<Place, Refusal>
+    ensures { result ≡ place_of kind d1 d2 part }
 {
-    let place = row_in(layout.kind, part).ok_or(Refusal::Beyond)?;
-    if is_hidden(group_of(part), layout.d1, layout.d2) {
+    let place = row_in(kind, part).ok_or(Refusal::Beyond)?;
+    if is_hidden(group_of(part), d1, d2) {
         return Err(Refusal::Hidden);
     }
     Ok(place)
+}
+
+// Where a part stands in a block of this layout; or 22, or 23. Each arm names the kind, so that the compiler makes one choice by the part for each.
+pub fn place_of(layout: Layout, part: Part) -> Result<Place, Refusal>
+    ensures { result ≡ place_of layout.kind layout.d1 layout.d2 part }
+{
+    match layout.kind {
+        Kind::Nm => place_as(Kind::Nm, layout.d1, layout.d2, part),
+        Kind::Bm1 => place_as(Kind::Bm1, layout.d1, layout.d2, part),
+    }
 }
